@@ -317,7 +317,7 @@ def test_archives(page: Browser, folder: pathlib.Path) -> None:
     is_(own_map(page), "")
 
 
-def test_sheet(page: Browser, folder: pathlib.Path) -> None:
+def test_image_overlay(page: Browser, folder: pathlib.Path) -> None:
     """A picture lies where three of its corners are, which are asked for or come in a file."""
     fresh(page, folder)
     (folder / "a.log").write_text(log(3))
@@ -326,7 +326,7 @@ def test_sheet(page: Browser, folder: pathlib.Path) -> None:
     size = 1 / 256
     (folder / "sheet.pgw").write_text(f"{size}\n0\n0\n-{size}\n{-4 + size / 2}\n{55 - size / 2}\n")
     page.give("#choose", folder / "a.log", folder / "sheet.png")
-    page.wait(f"{MADE} && !document.getElementById('sheet').hidden")
+    page.wait(f"{MADE} && !document.getElementById('overlay').hidden")
     put = ("((...all) => { all.forEach((it, k) => { "
            "document.getElementById('corner-' + k).value = it }); "
            "document.getElementById('lay').click(); return told.textContent })")

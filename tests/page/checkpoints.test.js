@@ -48,6 +48,11 @@ test("a visit is heard, or the way alone leads through", () => {
   assert.deepEqual(came([north(0, -300), north(30, 0), north(60, 300)]),
     [[moment(15), moment(45), 1, true]]);
   assert.deepEqual(came([north(0, -300), north(60, -151)]), []);
+  // at the circle itself it is heard too
+  const edge = { north: 54.501, east: -3.5 }, metres = metresBetween(TARN, edge);
+  const [visit] = passed([north(0, -300), place(60, "Q1A", edge.north, edge.east)],
+    [{ ...TARN, metres }]).visits;
+  assert.equal(visit.isHeard, true);
   // no way leads over a quarter of an hour, nor faster than 300 km/h, but for what flies
   assert.deepEqual(came([north(0, -300), north(901, 300)]), []);
   assert.deepEqual(came([north(0, -3000), north(10, 3000)]), []);

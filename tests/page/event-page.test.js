@@ -168,6 +168,11 @@ test("a name keeps its side in a map of one size", { skip }, () => {
   map.paint();
   const { key } = stations.marks.find(it => it.thing.name === "Q1MED").thing, first = by.get(key);
   assert.equal(first, 0);
+  // four pixels beside the mark, which reaches ten far, or seventeen with the ring of who is in need
+  const isBeside = stations.marks.filter(it => by.get(it.thing.key) === 0).map(({ thing, x }) =>
+    [thing.urgent ? 21 : 14, pen.texts.findLast(it => it[0] === thing.label)?.[1] - x]);
+  assert.ok(isBeside.some(it => it[0] === 14));
+  for (const [far, at] of isBeside) assert.ok(Math.abs(at - far) < 1e-9, `${at} is not ${far}`);
   for (const other of [{ width: width + 1 }, { height: height + 1 }]) {
     by.set(key, 1);
     assert.equal(sideNow(), 1);

@@ -17,7 +17,7 @@ import { MarkPainter } from "../../page/src/map/markers.js";
 import { NetMap } from "../../page/src/map/map.js";
 import { scaleBar } from "../../page/src/map/scale-bar.js";
 import { colourOf, TRACKS } from "../../page/src/map/colours.js";
-import { Tracks } from "../../page/src/map/tracks.js";
+import { MANY, Tracks } from "../../page/src/map/tracks.js";
 import { markOf, symbolOf } from "../../page/src/map/symbols.js";
 import { roundUp } from "../../page/src/util/numbers.js";
 
@@ -221,6 +221,18 @@ test("a track fades, has arrows on its way, and is pale beside one that is picke
   for (const [[a, tip], [b, low], [c, high]] of tips)
     assert.ok(a === "moveTo" && b === "lineTo" && c === "lineTo" && tip > low && tip > high);
   assert.equal(pen.globalAlpha, 1);
+});
+test("of very many places each track is drawn, thin ones in short paths", () => {
+  const lines = Array.from({ length: MANY + 2 }, (_, k) =>
+    place(k, `Q${k % 99}`, 54.5 + k / 1e6, -3.5));
+  const marks = marksOf(lines), { calls } = told(() =>
+    new Tracks(pen, viewOf(), { until: Infinity, isAnyPicked: false }).paint(marks));
+  const ops = calls.map(it => it.op).filter(it => /^(beginPath|lineTo|stroke)$/.test(it)).join(" ");
+  // no path that has lines is left without its stroke
+  assert.doesNotMatch(ops, /lineTo beginPath/);
+  const strokes = calls.filter(it => it.op === "stroke");
+  assert.ok(strokes.length > marks.length / 2, `${strokes.length} of ${marks.length}`);
+  assert.ok(strokes.every(it => it.lineWidth === 1 && it.globalAlpha === 0.4));
 });
 test("symbols have shapes and words, and marks for tables", { skip }, () => {
   const of = (table, code) => symbolOf({ table, code });

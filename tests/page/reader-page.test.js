@@ -28,6 +28,7 @@ if (!skip) {
   await import("../../page/src/main-reader.js");
   await until(() => !byId("choose").disabled);
 }
+const { options } = skip ? {} : await import("../../page/src/intake/options.js");
 const { aprsbook, aprsfiles } = globalThis;
 const rows = () => [...document.querySelectorAll("#files tbody tr")];
 const verdicts = () => Object.fromEntries(rows().map(it =>
@@ -147,9 +148,20 @@ test("a gap that is none is said, and files go when they are taken away", { skip
   await until(() => byId("status").textContent.includes("gap"));
   assert.equal(byId("status").textContent,
     "the gap has to be a whole number of seconds, from 1 to 3600");
+  // what is written counts once it is chosen; a number that is none is as if nothing were written
+  assert.deepEqual([options.isGap, options.gap], [false, 30]);
+  byId("gap").value = "60";
+  assert.equal(options.gap, 30);
   enter("gap", "60");
   await until(() => aprsbook.data.gap === 60);
-  assert.equal(aprsbook.data.gap, 60);
+  assert.deepEqual([options.isGap, options.gap, aprsbook.data.gap], [true, 60, 60]);
+  enter("silent", "0");
+  assert.deepEqual([options.silent, aprsbook.data.silent], [30, 30]);
+  for (const [title, shown] of [["", "APRS net"], ["Fell <race>", "Fell <race>"]]) {
+    enter("name", title);
+    await until(() => aprsbook.data.title === shown);
+    assert.deepEqual([options.title, byId("title").textContent], [shown, shown]);
+  }
   for (let k = 0; k < 2; k++) {
     document.querySelector("#files tbody td:last-child button").click();
   }
@@ -170,7 +182,10 @@ test("a log that has grown takes its older one's place, and what is new is marke
     await aprsfiles.add([fileOf("hill.log", first + more)]);
     assert.deepEqual(verdicts(), { "hill.log": "heard 2 passed 0" });
     assert.deepEqual([rows()[0] === row, rows().length, aprsfiles.files.length], [true, 1, 1]);
-    assert.match(byId("looked").textContent, /^1 new since .*: mark as seen$/);
+    const [, clock] = /^1 new since (\S+): mark as seen$/.exec(byId("looked").textContent);
+    // since a moment ago, also where that was before midnight
+    const ago = (Date.now() - Date.parse(`1970-01-01T${clock}Z`)) % 86400000;
+    assert.ok(ago < 60000, `${clock} was ${ago} ms ago`);
     // ages still count to the last transmission: nobody says that the net goes on
     assert.equal(aprsbook.page.follows, false);
     // and it stays new in another drawing, until the reader says that it is seen
@@ -220,6 +235,20 @@ test("logs beside the page are followed as a list names them, those of this serv
     assert.deepEqual([...new Set(asked)], ["http://localhost/logs.txt", "http://localhost/hill2.log"]);
     assert.equal(aprsbook.alive.refused,
       "logs.txt: no log of this server: https://elsewhere.example/x.log");
+    // one that fails, comes and fails again has been away since the last time
+    const { followOne, pace } = await import("../../page/src/intake/follow.js");
+    const { now } = Date, [file] = aprsfiles.files.filter(it => it.name === "hill2.log");
+    const awayAt = async (hour, text) => {
+      texts["/hill2.log"] = text;
+      Date.now = () => Date.UTC(2024, 5, 21, hour);
+      await followOne("hill2.log", "http://localhost/hill2.log");
+      return file.away;
+    };
+    const since = hour => `the server answers 404, since 2024-06-21 ${hour}:00:00 UTC`;
+    assert.deepEqual([await awayAt(19, ""), await awayAt(20, ""), await awayAt(21, log),
+      await awayAt(22, "")], [since(19), since(19), "", since(22)]);
+    Date.now = now;
+    assert.deepEqual(pace, { each: 15, limit: 10000 });
     // with no list nothing is asked for any more
     const { length } = asked;
     enter("follow", "");

@@ -70,7 +70,8 @@ test("lines are shown as a stream tells them, and nothing is asked for", { skip 
   assert.equal(aprsbook.page.follows, true);
   const [title, silent] = document.querySelectorAll("#desk input");
   assert.deepEqual([title.placeholder, silent.placeholder,
-    document.querySelector("#desk textarea").value], ["Fell race", "20", NET.roster]);
+    document.querySelector("#desk textarea").value, textsOf("#desk select option")],
+  ["Fell race", "20", NET.roster, ["none"]]);
 });
 test("lines that don't go on with what is there have the log asked for", { skip }, async () => {
   const log = line("18:00:00", "HILL") + line("18:30:00", "HILL") + line("18:40:00", "HILL");

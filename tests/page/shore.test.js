@@ -54,6 +54,22 @@ test("rings of land are in view as far as they may reach into the map", () => {
   // one that is no pixel wide is never seen
   assert.equal(isInView(300, 200, 0.9), false);
 });
+test("a coast of the world is closed, and a rough one has its sides one by one", () => {
+  const land = new Land(), corners = [[54.2, -4], [54.2, -3], [54.8, -3], [54.8, -4]];
+  land.rings = [{ middle: vectorOf(54.5, -3.5), wide: 0.4,
+    line: Float32Array.from(corners.flatMap(it => vectorOf(...it))),
+    places: Int32Array.from(corners.flatMap(([n, e]) => [100 * e, 100 * n])) }];
+  const namesOf = (metres, fills) => {
+    const { pen, told } = recorder(), said = land.paint(pen, viewOf(54.5, -3.5, metres), COLOURS,
+      fills);
+    return [said, told.map(it => it[0]).join(" ")];
+  };
+  assert.deepEqual(namesOf(1000, true),
+    ["", "beginPath moveTo lineTo lineTo lineTo closePath stroke fill"]);
+  const sides = Array(4).fill("moveTo lineTo").join(" ");
+  assert.deepEqual(namesOf(250, false),
+    ["rough coast", `setLineDash beginPath ${sides} stroke setLineDash`]);
+});
 test("a fine coast has its box, its rings, and which of their sides are no coast", () => {
   const { box, off, rings } = shoreOf(packed(SHORE));
   assert.deepEqual([box.length, off], [3 * 64, 80]);

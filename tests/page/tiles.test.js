@@ -2,7 +2,7 @@ import assert from "node:assert/strict";
 import { setImmediate as pause } from "node:timers/promises";
 import { test } from "node:test";
 import { Projection } from "../../page/src/geo/projection.js";
-import { TileLayer } from "../../page/src/map/layers/tile-layer.js";
+import { drawAt, TileLayer } from "../../page/src/map/layers/tile-layer.js";
 
 globalThis.devicePixelRatio = 1;
 globalThis.createImageBitmap = async () => ({ width: 256, height: 256 });
@@ -32,6 +32,19 @@ function archive() {
   return { tiles, read };
 }
 
+test("a picture is drawn by three corners, and so many pixels of the screen over its edge", () => {
+  const drawn = (corners, over) => {
+    const told = [], pen = { setTransform: (...of) => told.push(of),
+      drawImage: (_, ...of) => told.push(of) };
+    drawAt(pen, { width: 256, height: 128 }, corners, over);
+    return told;
+  };
+  assert.deepEqual(drawn([[100, 50], [356, 50], [100, 178]], 1.5),
+    [[1, 0, 0, 1, 100, 50], [0, 0, 257.5, 129.5]]);
+  // half as large, and turned to the right
+  assert.deepEqual(drawn([[100, 50], [100, 178], [36, 50]], 1.5),
+    [[0, 0.5, -0.5, 0, 100, 50], [0, 0, 259, 131]]);
+});
 test("tiles are read once for a view, in a large window too, or are too many", async () => {
   for (const [width, height, out, isShown] of [[1280, 700, 0, true], [1280, 700, 1.9, true],
     [1920, 1000, 1, true], [1920, 1000, 1.9, false], [2560, 1400, 1.9, false]]) {

@@ -41,7 +41,9 @@ test("a line that is measured goes the shortest way", () => {
   const sum = places.slice(1).reduce((all, it, k) => all + distance(places[k], it), 0);
   assert.ok(Math.abs(sum - distance(london, tokyo)) < 1);
   assert.deepEqual(way.slice(0, 3), london);
-  assert.equal(wayOf(london, london).length, 6);
+  // a way below 50 km is one stroke
+  assert.deepEqual([0, 0.44, 0.46].map(it => wayOf(london, vectorOf(51.5 + it, 0)).length / 3),
+    [2, 2, 3]);
   assert.equal(wayOf([1, 0, 0], [-1, 0, 0]).length, 6);
 });
 test("what is measured, in words", () => {

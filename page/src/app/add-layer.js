@@ -117,7 +117,7 @@ function toldOf({ name, roster, points, base, fault, spelling }) {
 /** @param {File[]} files */
 export async function bringAll(files) {
   for (const it of files) {
-    const fault = await bringGround(it);
+    const fault = await bringBaseMap(it);
     const bytes = fault === null ? await it.arrayBuffer().catch(() => null) : null;
     const written = bytes && writtenIn(new Uint8Array(bytes));
     if (written) await bring(it.name, written.text, written.spelling);
@@ -129,7 +129,7 @@ export async function bringAll(files) {
  * Takes a map of tiles or a picture of one; null where it is none, or why it can't be drawn.
  * @param {File} file
  */
-export async function bringGround(file) {
+export async function bringBaseMap(file) {
   try {
     return await widgets().sources.take(file) ? "" : null;
   } catch (fault) {

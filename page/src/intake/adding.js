@@ -2,13 +2,14 @@
 // What is dropped or chosen: files are read and checked, take the places of older ones, and make
 // the book anew.
 
-import { bring, bringGround, bringLines } from "../app/add-layer.js";
+import { bring, bringBaseMap, bringLines } from "../app/add-layer.js";
 import { goOnFromHere } from "../app/header.js";
 import { widgets } from "../app/state.js";
 import { beginTime, madeNow, tellAgain, work } from "./book.js";
-import { files, numberIn } from "./file-table.js";
+import { files } from "./file-table.js";
 import { handleOf } from "./folders.js";
 import { fileOf, isGrown, isSame, leaveOut, look, markOf, take, takePlace } from "./intake.js";
+import { options } from "./options.js";
 import { say, tellProgress } from "./progress.js";
 import { beginEarly } from "./runs.js";
 import { tileOf } from "../map/layers/tile-layer.js";
@@ -33,7 +34,7 @@ function takeTile(file) {
  * @param {File} file
  */
 async function takeFile(file) {
-  const fault = await bringGround(file);
+  const fault = await bringBaseMap(file);
   if (fault === "") return null;
   const it = await take(file, bring);
   if (it?.unread && fault) it.unread += `, and ${fault}`;
@@ -118,7 +119,7 @@ function takeOthers(dropped) {
 async function takeAll(dropped) {
   beginTime();
   tellProgress(0, "reading");
-  const gap = numberIn("gap"), many = files.length, plain = takeOthers(dropped);
+  const { gap } = options, many = files.length, plain = takeOthers(dropped);
   const all = (await Promise.all(plain.map(takeFile))).flatMap(it => it || []);
   const pages = all.flatMap(({ name, lines }) => lines ? [{ name, lines }] : []);
   const read = await newOf(all.filter(it => !it.lines));
@@ -139,5 +140,5 @@ async function takeAll(dropped) {
 }
 /** Looks at all files again that these want. */
 export async function lookAgain(/** @type {Given[]} */ list) {
-  for (const it of list) await look(it, numberIn("gap"));
+  for (const it of list) await look(it, options.gap);
 }

@@ -3,12 +3,12 @@
 
 import { drawRepeats, show } from "../app/render.js";
 import { page, shownNow } from "../app/state.js";
-import { drawFiles, files, notesOf, numberIn, shiftNotes } from "./file-table.js";
+import { drawFiles, files, notesOf, shiftNotes } from "./file-table.js";
+import { options } from "./options.js";
 import { enableSaves } from "./own-saves.js";
 import { say, tellProgress } from "./progress.js";
 import { repeatsBy } from "./receptions.js";
 import { Refused, textsOf } from "./runs.js";
-import { byId } from "../util/dom.js";
 import { GREATEST_GAP } from "../util/limits.js";
 import { count, messageOf, printable } from "../util/text.js";
 import { aMoment } from "../worker/pool.js";
@@ -35,16 +35,16 @@ export function beginTime() {
 let drawnShifts = new Map();
 /** @param {string} name of a receiver */
 export const drawnShiftOf = name => drawnShifts.get(name) || 0;
-const optionsOf = () => ({ title: byId("name").value || "APRS net", gap: numberIn("gap"),
-  live: 0, silent: numberIn("silent"), maps: [], roster: "",
-  notes: [...files.flatMap(notesOf), ...shiftNotes(drawnShifts)] });
+/** What the page has of the net beside its tables. */
+const aboutNet = () => ({ title: options.title, gap: options.gap, live: 0, silent: options.silent,
+  maps: [], roster: "", notes: [...files.flatMap(notesOf), ...shiftNotes(drawnShifts)] });
 /**
  * Draws these texts, with the options as they stand.
  * @param {Texts & { repeats?: string }} texts
  */
 function draw({ rows, messages, read, shifts: by, repeats }) {
   drawnShifts = by;
-  return show({ ...optionsOf(), rows, messages, repeats }, read);
+  return show({ ...aboutNet(), rows, messages, repeats }, read);
 }
 /** Draws the book again, where there is one, as what the reader chose has changed. */
 export function drawAgain() {
@@ -52,8 +52,8 @@ export function drawAgain() {
 }
 const NONE = new Uint8Array();
 /** Draws an empty page. */
-export const drawEmpty = (title = optionsOf().title) =>
-  show({ ...optionsOf(), title, notes: [], rows: NONE, messages: NONE, waits: true });
+export const drawEmpty = (title = options.title) =>
+  show({ ...aboutNet(), title, notes: [], rows: NONE, messages: NONE, waits: true });
 /**
  * Draws an empty page, and says why it is.
  * @param {string} why
@@ -72,13 +72,13 @@ export async function work() {
   enableSaves(false);
   made = null;
   tellProgress(1);
-  if (!byId("gap").validity.valid)
+  if (!options.isGap)
     return say(`the gap has to be a whole number of seconds, from 1 to ${GREATEST_GAP}`, true);
   if (!good.length) return drawNothing(files.length ? "no file can be read" : "");
   const words = `merging ${count(good.length, "file")}`;
   tellProgress(0.3, words);
   try {
-    const texts = await textsOf(good, numberIn("gap"),
+    const texts = await textsOf(good, options.gap,
       share => mine === turn && tellProgress(share, words));
     if (mine !== turn) return; // other files came
     tellProgress(0.9, "drawing");

@@ -5,6 +5,7 @@
 import { REASONS } from "../formats/file-kinds.js";
 import { movedIn, receiversIn } from "./clock-shift.js";
 import { leaveOut, lineText, look, shifts, SHOWN } from "./intake.js";
+import { options } from "./options.js";
 import { apartText } from "../net/clock-words.js";
 import { byId, make, save } from "../util/dom.js";
 import { count, printable } from "../util/text.js";
@@ -14,11 +15,6 @@ import { sizeOf } from "../worker/sources.js";
 /** @typedef {() => unknown} Work makes the book anew of what the files are now */
 /** @type {Given[]} */
 export const files = [];
-/**
- * What stands in the field for a gap or for silence; where it is no such number, 30.
- * @param {"gap" | "silent"} id
- */
-export const numberIn = id => byId(id).validity.valid ? +byId(id).value : 30;
 
 /**
  * Takes a file away; the focus goes to the next one.
@@ -43,7 +39,7 @@ function fieldsOf(file, work) {
   const field = (/** @type {"receiver" | "moment"} */ key, /** @type {object} */ of) => {
     const node = make("input", { value: file[key], ...of, async onchange() {
       file[key] = node.value;
-      await look(file, numberIn("gap"));
+      await look(file, options.gap);
       work();
     } });
     return node;
@@ -85,7 +81,7 @@ function damageOf(file, work) {
   return [linesOf(count(damage.length, "damaged line"), lines, damage.length <= OPEN),
     make("button", { type: "button", className: "leave", textContent: words, async onclick() {
       leaveOut(file);
-      await look(file, numberIn("gap"));
+      await look(file, options.gap);
       work();
     } })];
 }

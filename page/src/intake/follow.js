@@ -7,10 +7,11 @@ import { page } from "../app/state.js";
 import { kindOf, linesLost, READ, spelled } from "../formats/file-kinds.js";
 import { joined } from "../formats/gunzip.js";
 import { work } from "./book.js";
-import { files, numberIn } from "./file-table.js";
+import { files } from "./file-table.js";
 import { goesOn } from "./growth.js";
 import { askFor, namesIn, Refused } from "./http-get.js";
 import { fileOf, leaveOut, look } from "./intake.js";
+import { options, setOption, takeOptions } from "./options.js";
 import { byId, choose, chosen } from "../util/dom.js";
 import { printable } from "../util/text.js";
 import { fullText } from "../util/time.js";
@@ -27,16 +28,16 @@ const OVERLAP = 64; // bytes that are asked for again, to see that it is the sam
 export function beginFollowing() {
   if (!location.protocol.startsWith("http")) return;
   byId("follow-label").hidden = false;
-  const box = byId("follow");
-  box.value = chosen.get("logs") || "";
-  box.addEventListener("change", () => {
-    choose("logs", box.value);
-    if (!box.value) endFollowing();
+  setOption("list", chosen.get("logs") || "");
+  byId("follow").addEventListener("change", () => {
+    takeOptions();
+    choose("logs", options.list);
+    if (!options.list) endFollowing();
     follow();
   });
   setInterval(follow, pace.each * 1000);
   setInterval(() => page.follows && tick(), 1000);
-  return box.value ? follow() : Promise.resolve();
+  return options.list ? follow() : Promise.resolve();
 }
 /** Whether a stream tells what is new, so that nothing has to be asked for. */
 export const told = { now: false };
@@ -60,7 +61,7 @@ function endFollowing() {
  * @returns {Promise<void>}
  */
 export async function follow() {
-  const list = byId("follow").value;
+  const { list } = options;
   if (list) page.follows = true;
   if (!list || following || told.now) return;
   following = true;
@@ -72,7 +73,7 @@ export async function follow() {
     else alive.away ||= Date.now();
   }
   following = false;
-  const isOther = byId("follow").value !== list;
+  const isOther = options.list !== list;
   // a stream that came meanwhile tells of all logs
   if (isOther || told.now) Object.assign(alive, { away: 0, refused: "" });
   if (isOther) return follow();
@@ -234,10 +235,10 @@ export async function takeWhole(file, had, whole) {
  * @param {Given} file
  */
 async function lookWell(file) {
-  await look(file, numberIn("gap"));
+  await look(file, options.gap);
   if (!file.damage.length) return;
   leaveOut(file);
-  await look(file, numberIn("gap"));
+  await look(file, options.gap);
 }
 /**
  * Whether bytes go on with what is known of them, by its end.
@@ -264,7 +265,7 @@ async function keepEarlier(file, old) {
   if (!known) files.push(it);
   earlier.set(file, it);
   it.bytes = lines;
-  await look(it, numberIn("gap"));
+  await look(it, options.gap);
 }
 /**
  * The bytes of a file of which `had` are known: the rest alone, where the server can do so.

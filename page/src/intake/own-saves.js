@@ -3,8 +3,8 @@
 // page of the event.
 
 import { widgets } from "../app/state.js";
-import { numberIn } from "./file-table.js";
 import { placeOf } from "./intake.js";
+import { options } from "./options.js";
 import { say } from "./progress.js";
 import { dataWithRepeats, eventPieces, readShell, tilesWithin } from "./save-event-page.js";
 import { byId, make, save } from "../util/dom.js";
@@ -38,7 +38,7 @@ async function making(name, run) {
  * @param {string} name
  */
 async function saveRun(made, command, name) {
-  const got = await run(command, numberIn("gap"), [made.book]);
+  const got = await run(command, options.gap, [made.book]);
   if (got.status) throw new Error(placeOf(got));
   save(name, got.bytes, "text/plain");
 }

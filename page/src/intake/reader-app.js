@@ -11,6 +11,7 @@ import { receiversIn } from "./clock-shift.js";
 import { files } from "./file-table.js";
 import { filesOf } from "./folders.js";
 import { asText, shifts } from "./intake.js";
+import { options, takeOptions } from "./options.js";
 import { drawOwnSaves } from "./own-saves.js";
 import { say } from "./progress.js";
 import { byId } from "../util/dom.js";
@@ -54,10 +55,14 @@ function listen() {
       byId(id).value = ""; // so that the same file can be chosen again
     };
   byId("gap").onchange = async () => {
-    if (byId("gap").validity.valid) await lookAgain(files);
+    takeOptions();
+    if (options.isGap) await lookAgain(files);
     work();
   };
-  byId("name").onchange = byId("silent").onchange = drawAgain;
+  byId("name").onchange = byId("silent").onchange = () => {
+    takeOptions();
+    drawAgain();
+  };
   for (const kind of /** @type {const} */ (["dragover", "dragleave", "drop"]))
     addEventListener(kind, event => {
       const { dataTransfer, target } = event;
@@ -71,6 +76,7 @@ function listen() {
 }
 /** Makes workers, and says whether this browser can. */
 export async function beginReading() {
+  takeOptions();
   drawOwnSaves(madeNow);
   page.clockOf = clockOf;
   drawEmpty("aprsbook");

@@ -11,10 +11,10 @@ import { Journal } from "../desks/journal.js";
 import { SharedStream, tabsAt } from "../desks/shared-stream.js";
 import { goneOn } from "../desks/stream.js";
 import { storeOf } from "../ics309/own-lines.js";
-import { byId } from "../util/dom.js";
 import { messageOf } from "../util/text.js";
-import { work } from "./book.js";
+import { drawAgain, work } from "./book.js";
 import { files } from "./file-table.js";
+import { options, setOption } from "./options.js";
 import { drawServed } from "./served-tiles.js";
 import { followed, followedOf, followOne, mark, takeWhole, told } from "./follow.js";
 
@@ -119,10 +119,10 @@ function setOf(name, value, run) {
   set.set(name, value);
   run(value);
 }
-/** @param {"name" | "silent"} id */
-const putIn = id => (/** @type {string} */ value) => {
-  byId(id).value = value;
-  byId(id).dispatchEvent(new Event("change"));
+/** @param {"title" | "silent"} name */
+const putIn = name => (/** @type {string} */ value) => {
+  setOption(name, value);
+  drawAgain();
 };
 /** What stands in the page as the net's names: those of desks come before those of the roster. */
 function namesText() {
@@ -137,7 +137,7 @@ const inTurn = (/** @type {() => Promise<void>} */ step) => {
 function applySettings() {
   if (!net) return;
   const { title, silent, roster, courses, tiles } = nowOf(net, page.journal?.settings || new Map());
-  setOf("title", title, putIn("name"));
+  setOf("title", title, putIn("title"));
   setOf("silent", silent, putIn("silent"));
   setOf("names", namesText(), text => inTurn(() => bringOnly(NAMES, [text])));
   setOf("roster", roster, () => inTurn(() => bringOnly("roster of the net", [roster])));
@@ -198,6 +198,7 @@ export async function beginServed() {
       tick();
     } }, tabsAt(new URL(".", location.href).href));
   page.follows = true;
-  byId("follow").value ||= "logs.txt"; // so that it is asked where no stream comes through
+  // so that it is asked where no stream comes through
+  if (!options.list) setOption("list", "logs.txt");
   stream.begin();
 }

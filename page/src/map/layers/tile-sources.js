@@ -101,8 +101,8 @@ export class TileSources {
    */
   ask(of) {
     this.waiting = [...this.waiting.filter(it => it.name !== of.name), of];
-    byId("sheet").hidden = false;
-    byId("sheet-name").textContent = of.name;
+    byId("overlay").hidden = false;
+    byId("overlay-name").textContent = of.name;
     byId("adds").open = true;
     byId(CORNERS[0]).focus();
   }
@@ -129,7 +129,7 @@ export class TileSources {
       return this.tell(`${name}: ${/** @type {Error} */ (fault).message}`, true);
     }
     this.waiting.pop();
-    byId("sheet").hidden = true;
+    byId("overlay").hidden = true;
     byId("adds").open = false;
     for (const it of CORNERS) byId(it).value = "";
     this.tell("");
@@ -143,7 +143,7 @@ export class TileSources {
     this.images.all = [];
     this.waiting = [];
     this.worlds.clear();
-    byId("sheet").hidden = true;
+    byId("overlay").hidden = true;
     this.show();
   }
   /** Says which maps there are, and draws them. */

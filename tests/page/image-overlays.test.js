@@ -32,7 +32,7 @@ test("a world file has the corners of its picture", () => {
 });
 /** What is dropped: a picture, or its world file, whose upper left corner lies there. */
 const file = (name, what) => Object.assign(new Blob([what]), { name });
-const sheet = name => file(name, Uint8Array.from([0x89, 80, 78, 71, 13, 10, 26, 10, 0, 0, 0, 0]));
+const picture = name => file(name, Uint8Array.from([0x89, 80, 78, 71, 13, 10, 26, 10, 0, 0, 0, 0]));
 const world = (name, north, east) =>
   file(name, `0.01\n0\n0\n-0.01\n${east + 0.005}\n${north - 0.005}\n`);
 function grounds() {
@@ -44,29 +44,30 @@ function grounds() {
     .map(it => [it.name, ...degreesOf(it.corners[0]).map(Math.round)].join(" ")).sort() };
 }
 const field = id => document.getElementById(id);
-test("sheets that are dropped together lie each where its own world file says", async () => {
-  const files = [world("A.pgw", 55, -4), sheet("a.png"), world("b.pngw", 47, 10), sheet("b.png")];
+test("pictures that are dropped together lie each where its own world file says", async () => {
+  const files = [world("A.pgw", 55, -4), picture("a.png"), world("b.pngw", 47, 10),
+    picture("b.png")];
   for (const order of [[0, 1, 2, 3], [3, 1, 2, 0], [1, 3, 0, 2], [0, 2, 1, 3]]) {
     const { all, told, whereIs } = grounds();
     const taken = await Promise.all(order.map(k => all.take(files[k])));
     assert.deepEqual([taken, await all.take(file("a.txt", "x"))], [[true, true, true, true], false]);
     assert.deepEqual(whereIs(), ["a.png 55 -4", "b.png 47 10"]);
-    assert.deepEqual([all.waiting, [...all.worlds], field("sheet").hidden], [[], [], true]);
+    assert.deepEqual([all.waiting, [...all.worlds], field("overlay").hidden], [[], [], true]);
     assert.ok(told.every(it => it === ""));
   }
 });
-test("of sheets without world files the corners are asked for, one after the other", async () => {
+test("of pictures without world files the corners are asked for, one after the other", async () => {
   const { all, whereIs } = grounds();
-  await Promise.all(["a.png", "b.png"].map(it => all.take(sheet(it))));
+  await Promise.all(["a.png", "b.png"].map(it => all.take(picture(it))));
   for (const [name, ...corners] of [["b.png", "47, 10", "47, 11", "46, 10"],
     ["a.png", "55, -4", "55, -3", "54, -4"]]) {
-    assert.deepEqual([field("sheet").hidden, field("sheet-name").textContent], [false, name]);
+    assert.deepEqual([field("overlay").hidden, field("overlay-name").textContent], [false, name]);
     // whoever types begins with the first corner
     assert.equal(document.activeElement, field("corner-0"));
     corners.forEach((it, k) => { field(`corner-${k}`).value = it; });
     all.lay();
   }
-  assert.deepEqual([whereIs(), field("sheet").hidden], [["a.png 55 -4", "b.png 47 10"], true]);
+  assert.deepEqual([whereIs(), field("overlay").hidden], [["a.png 55 -4", "b.png 47 10"], true]);
 });
 test("an archive of tiles that is taken away is no longer said, nor painted", () => {
   const { all } = grounds();
@@ -82,10 +83,10 @@ test("an archive of tiles that is taken away is no longer said, nor painted", ()
 test("a wrong world file refuses its own picture alone", async () => {
   const { all, whereIs } = grounds();
   await all.take(file("a.pgw", "no numbers"));
-  await assert.rejects(all.take(sheet("a.png")), /no six numbers/);
+  await assert.rejects(all.take(picture("a.png")), /no six numbers/);
   await assert.rejects(all.take(file("a.pgw", "still none")), /no six numbers/);
-  await Promise.all([all.take(sheet("b.png")), all.take(world("b.pgw", 47, 10))]);
-  assert.deepEqual([whereIs(), field("sheet-name").textContent], [["b.png 47 10"], "a.png"]);
+  await Promise.all([all.take(picture("b.png")), all.take(world("b.pgw", 47, 10))]);
+  assert.deepEqual([whereIs(), field("overlay-name").textContent], [["b.png 47 10"], "a.png"]);
   await all.take(world("a.pgw", 55, -4));
   assert.deepEqual(whereIs(), ["a.png 55 -4", "b.png 47 10"]);
   all.clear();
