@@ -1,5 +1,4 @@
 """Who was heard last, and who of those expected wasn't."""
-import dataclasses
 import pathlib
 from typing import List
 
@@ -102,7 +101,7 @@ def test_one_clock_an_hour_ahead_makes_nobody_last(programs: Programs) -> None:
 
 def test_copies_that_came_another_way_say_that_a_clock_is_wrong(programs: Programs) -> None:
     """What C heard through a digipeater is of the same text; of a time it wasn't."""
-    programs.say(*(dataclasses.replace(it, via=("Q1DIGI*",)) if it.receiver == "C" else it
+    programs.say(*(it._replace(via=("Q1DIGI*",)) if it.receiver == "C" else it
                    for it in HOUR_AHEAD))
     heard = programs.lines("last-heard", "--from", "2024-06-21T18:09", "net.log")[1:]
     assert [it[:4] for it in heard] == [[at("18:10"), "RX1", "Q1X", "2"]]

@@ -1,12 +1,10 @@
 """A database of SQLite with the tables of a book, in which numbers are numbers."""
 import contextlib
-import dataclasses
 import itertools
 import os
 import sqlite3
 from typing import (
-    Any, Callable, Dict, Iterable, Iterator, Mapping, Optional, Sequence, Type,
-    get_type_hints)
+    Any, Callable, Dict, Iterable, Iterator, Mapping, Optional, Sequence, Type)
 
 from aprsbook_tools.errors import ExitStatus, Fault
 from aprsbook_tools.reports import table, table_files, tactical
@@ -66,11 +64,8 @@ def sql_type(hint: Any) -> str:
 
 def columns_of(kind: Type[Any]) -> Dict[str, str]:
     """The columns of a kind, each with its type."""
-    hints = get_type_hints(kind)
-    return {
-        table.column_of(it.name): SENT.get(it.name) or sql_type(hints[it.name])
-        for it in dataclasses.fields(kind)
-    }
+    return {table.column_of(name): SENT.get(name) or sql_type(of)
+            for name, of in kind.__annotations__.items()}
 
 
 def converter_of(name: str, read: Callable[[str], Any]) -> table.ConvertColumn:

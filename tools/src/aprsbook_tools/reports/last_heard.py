@@ -4,24 +4,24 @@ The table `stations` has who sent frames itself; who was heard through a gate al
 """
 import argparse
 import collections
-import dataclasses
 import re
-from typing import Counter, DefaultDict, Dict, Iterable, Iterator, List, Optional, Sequence, Tuple
+from typing import (
+    Counter, DefaultDict, Dict, Iterable, Iterator, List, NamedTuple, Optional, Sequence, Tuple)
 
 from aprsbook_tools import arguments, progress, table_output
 from aprsbook_tools.books import merged_inputs
 from aprsbook_tools.formats import book_file
+from aprsbook_tools.formats.forms import form
 from aprsbook_tools.reports import receiver_clocks, table
 from aprsbook_tools.reports.table import REST, Columns, Row, Time, text_of
 
 # those that are read
 COLUMNS = ("first", "last", "receivers", "receiver", "source", "destination", "gate", REST)
-CALL = re.compile(r"[A-Za-z0-9]{1,9}(?:-[A-Za-z0-9]{1,2})?", re.ASCII)  # also one of APRS-IS
+CALL = form(r"[A-Za-z0-9]{1,9}(?:-[A-Za-z0-9]{1,2})?", re.ASCII)  # also one of APRS-IS
 NEVER = ("", "")
 
 
-@dataclasses.dataclass(frozen=True)
-class Heard:
+class Heard(NamedTuple):
     """A station: how many transmissions it sent, when and by whom it was heard last, and how many
     frames of others it passed on. `moment` is that of the last one by clocks that are right."""
 
@@ -80,8 +80,8 @@ class Counts:
 def joined(own: Sequence[Heard]) -> Heard:
     """A station, of what each list of receivers heard of it."""
     last = max(own, key=lambda it: it.order)
-    return dataclasses.replace(last, transmissions=sum(it.transmissions for it in own),
-                               passed=sum(it.passed for it in own))
+    return last._replace(transmissions=sum(it.transmissions for it in own),
+                         passed=sum(it.passed for it in own))
 
 
 def heard_of(tables: Iterable[Columns], gap: int = book_file.GAP) -> List[Heard]:

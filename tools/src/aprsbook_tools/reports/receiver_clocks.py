@@ -7,12 +7,12 @@ more to go by, since it reads logs.
 import collections
 import itertools
 import operator
-import re
 from typing import (
     Counter, DefaultDict, Dict, Iterable, Iterator, List, NamedTuple, Optional, Sequence, Tuple)
 
 from aprsbook_tools import stderr
 from aprsbook_tools.formats import book_file, moments
+from aprsbook_tools.formats.forms import form
 from aprsbook_tools.reports import clock_offsets, table
 from aprsbook_tools.reports.table import REST, Columns, Row
 
@@ -20,7 +20,7 @@ from aprsbook_tools.reports.table import REST, Columns, Row
 COLUMNS = ("first", "receivers", "source", "destination", "gate", REST)
 MOST = 8  # rows of one text: what is sent more often has no partner that would be sure
 FEWEST = 2  # transmissions that both heard: fewer say nothing of a clock
-RUN = re.compile(b"\1+")  # rows each of which has the text of the one behind it
+RUN = form(b"\1+")  # rows each of which has the text of the one behind it
 
 
 class Pair(NamedTuple):
