@@ -227,6 +227,7 @@ ALWAYS = Time()
 BATCH = 200  # lines
 KNOWN = 2_000  # texts of a column whose values are kept
 FIELDS = operator.methodcaller("count", "\t")  # of a line, without the first
+BETWEEN = "\t\n\t"  # two lines: a mark that no line has
 REST = "*"  # in place of a column's name: what stands behind all others that are read
 
 
@@ -299,9 +300,11 @@ class Layout:
     def whole(self, lines: Sequence[str], number_: int) -> Callable[[int], Sequence[str]]:
         """The columns of lines, of which the first has this number, by their places."""
         size, count = len(self.head), len(lines)
-        self.check(lines, [*map(FIELDS, lines)], size - 1, number_)
-        fields = "\t".join(lines).split("\t")
-        return lambda at: fields[at::size] if at < size else [""] * count
+        step = size + 1  # a line's fields, and the mark behind them, which is no field's text
+        fields = BETWEEN.join(lines).split("\t")
+        if len(fields) != step * count - 1 or fields[size::step].count("\n") != count - 1:
+            self.check(lines, [*map(FIELDS, lines)], size - 1, number_)
+        return lambda at: fields[at::step] if at < size else [""] * count
 
     def short(self, lines: Sequence[str], number_: int) -> Callable[[int], Sequence[str]]:
         """The same, of which the last one is all that stands behind those that are read."""
@@ -321,6 +324,11 @@ class Layout:
     def is_within(self, moments: Sequence[str]) -> bool:
         """Whether one of a row's moments is of the time."""
         return any(self.time.since <= it < self.time.until for it in moments if it)
+
+
+def is_empty(column: Sequence[Any]) -> bool:
+    """Whether no row has something in a column that is shown: to count finds most as they are."""
+    return not (column and column[0]) and column.count("") == len(column)
 
 
 def kept(columns: Columns, are: Sequence[Any]) -> Columns:
@@ -362,7 +370,7 @@ def converter(read: Callable[[str], Any], empty: Any, changes: Optional[Changes]
     known = Known(read)
 
     def convert(values: Sequence[str]) -> Sequence[Any]:
-        if not any(values):
+        if is_empty(values):
             return [empty] * len(values)
         if changes is not None and not changes("\n".join(values)):
             return values

@@ -98,9 +98,9 @@ def without_empty(columns: Sequence[Sequence[str]], between: str) -> List[Sequen
     """The columns, in which those that are empty, one behind another, are one that has what stands
     between them."""
     result: List[Sequence[str]] = []
-    for is_full, group in itertools.groupby(columns, any):
+    for is_empty, group in itertools.groupby(columns, table.is_empty):
         own = [*group]
-        result += own if is_full else [[between * (len(own) - 1)] * len(own[0])]
+        result += [[between * (len(own) - 1)] * len(own[0])] if is_empty else own
     return result
 
 
