@@ -238,6 +238,8 @@ elsewhere:
 
 # ---- what follows builds nothing, so that no root runs a prover ----
 
+# where modules are put in place for good, aprs-net begins sooner once they are compiled
+compiles = python3 -m compileall -q --invalidation-mode timestamp
 # the programs that are put in place: BUILT, where it is given, or those that there are of these sources
 FOUND = $(if $(filter command,$(origin BUILT)),echo '$(BUILT)',build/programs.sh)
 install:
@@ -245,6 +247,7 @@ install:
 	    [ -x "$$it" ] || { echo "there is no program $$it yet: make build" >&2; exit 1; }; done && \
 	    packaging/put-into '$(DESTDIR)$(PREFIX)' $$programs
 	packaging/put-tools '$(DESTDIR)$(PREFIX)'
+	@$(if $(DESTDIR),,$(compiles) '$(PREFIX)/share/aprsbook/tools/src' > /dev/null || true)
 
 uninstall:
 	packaging/take-from '$(DESTDIR)$(PREFIX)' $(BUILT)

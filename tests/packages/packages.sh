@@ -111,7 +111,11 @@ if has 'make tarball' tar; then
     CDPATH=.:/ "aprsbook-$version/install.sh" prefix
     (umask 077 && "aprsbook-$version/install.sh" prefix && "aprsbook-$version/install.sh" private)
     [ -z "$(find private ! -type l ! -perm -4)" ] || fail 'install.sh keeps files from others'
-    diff -r --no-dereference installed prefix || fail 'the tar file has other files than make install'
+    diff -r --no-dereference -x __pycache__ installed prefix ||
+        fail 'the tar file has other files than make install'
+    if has 'compiled modules of aprs-net' python3; then
+        [ -n "$(find prefix -name 'cli.*.pyc')" ] || fail 'install.sh compiles no modules of aprs-net'
+    fi
     runs prefix
     # the cookbook that was unpacked with it
     prefix/share/aprsbook/examples/cookbook.sh --posix prefix/bin/aprsbook > said 2>&1 ||

@@ -52,8 +52,6 @@ SURVIVORS: Dict[Tuple[str, str], str] = {
     ("serving/server.py", "IDLE = "): "how long is waited for who is slow is no promise",
     ("frame_sources/writer.py", "while self.is_alive() and"):
         "the same but at one moment of the clock",
-    ("reports/roster.py", "@dataclass(frozen=True)"):
-        "a dataclass that nobody changes needn't be frozen",
 }
 COMPARED = {ast.Lt: "<=", ast.LtE: "<", ast.Gt: ">=", ast.GtE: ">", ast.Eq: "!=", ast.NotEq: "==",
             ast.In: "not in", ast.NotIn: "in", ast.Is: "is not", ast.IsNot: "is"}

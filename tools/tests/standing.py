@@ -1,5 +1,4 @@
 """A stand-in for the programs: tables as texts, which scripts in the PATH print."""
-import dataclasses
 import os
 import pathlib
 from typing import Any, Dict, Iterable, Iterator, List, Sequence
@@ -50,7 +49,7 @@ def row(kind: str, clock: str, source: str, **more: Any) -> Row:
         source=source,
         destination="APRS",
     )
-    return dataclasses.replace(plain, **more)
+    return plain._replace(**more)
 
 
 def place(clock: str, source: str, north: float, east: float, **more: Any) -> Row:
@@ -65,13 +64,13 @@ def place(clock: str, source: str, north: float, east: float, **more: Any) -> Ro
         compressed=False,
         symbol="/>",
     )
-    return dataclasses.replace(plain, **more)
+    return plain._replace(**more)
 
 
 def put(clock: str, source: str, name: str, north: float, east: float, **more: Any) -> Row:
     """A row with the place of an object."""
     plain = place(clock, source, north, east, kind="object", name=name, state="live")
-    return dataclasses.replace(plain, **more)
+    return plain._replace(**more)
 
 
 def message(clock: str, source: str, addressee: str, text: str, **more: Any) -> Message:
@@ -84,7 +83,7 @@ def message(clock: str, source: str, addressee: str, text: str, **more: Any) -> 
         first=at(clock),
         last=at(clock),
     )
-    return dataclasses.replace(plain, **more)
+    return plain._replace(**more)
 
 
 def station(clock: str, source: str, transmissions: int = 1, receiver: str = "RX1") -> Station:
@@ -109,8 +108,7 @@ def shown(value: Any) -> str:
 
 def table_text(kind: Any, items: Sequence[Any]) -> str:
     """The table of these items, with a column that this version doesn't know."""
-    fields = [it.name for it in dataclasses.fields(kind)]
-    lines = [[shown(getattr(it, name)) for name in fields] + ["?"] for it in items]
+    lines = [[*map(shown, it), "?"] for it in items]
     head = [*columns_of(kind), "of_later"]
     return "".join("\t".join(line) + "\n" for line in [head, *lines])
 

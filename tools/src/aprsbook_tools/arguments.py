@@ -1,6 +1,5 @@
 """Arguments that more than one command has."""
 import argparse
-import datetime
 import os
 import re
 import time
@@ -8,11 +7,12 @@ from typing import Callable, Optional, Sequence
 
 from aprsbook_tools.errors import ExitStatus, Fault
 from aprsbook_tools.formats import limits, log_file, moments
+from aprsbook_tools.formats.forms import form
 
 SECONDS = {"s": 1, "m": 60, "h": 3600, "d": 86_400}
-DURATION = re.compile(r"([0-9]{1,9})([smhd]?)", re.ASCII)
-CLOCK = re.compile(r"\d\d:\d\d(:\d\d)?Z?", re.ASCII)
-BEGIN = re.compile(
+DURATION = form(r"([0-9]{1,9})([smhd]?)", re.ASCII)
+CLOCK = form(r"\d\d:\d\d(:\d\d)?Z?", re.ASCII)
+BEGIN = form(
     r"(\d{4}-\d\d-\d\d(?:T\d\d(?::\d\d(?::\d\d(?:\.\d{3})?)?)?)?)(Z|[+-]\d\d:\d\d)?", re.ASCII)
 WHOLE = "0000-01-01T00:00:00.000Z"  # what completes the beginning of a moment
 NO_MOMENT = ("is no moment in UTC, such as 2024-06-21T18:00, or with an offset such as +02:00, "
@@ -42,6 +42,8 @@ def duration(least: int, most: int, unit: str) -> Callable[[str], int]:
 
 
 def today() -> str:
+    import datetime  # for a clock's time alone
+
     return f"{datetime.datetime.now(datetime.timezone.utc):%Y-%m-%d}"
 
 

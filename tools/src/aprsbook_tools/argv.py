@@ -1,33 +1,35 @@
 """What was typed: a command's parser, options that stand among inputs, and what was meant."""
 import argparse
+import functools
 import importlib
 import keyword
 import os
 import re
-import shutil
-import textwrap
 from types import ModuleType
-from typing import IO, Iterable, List, NoReturn, Optional, Sequence, Tuple
+from typing import IO, Any, Iterable, List, NoReturn, Optional, Sequence, Tuple
 
+from aprsbook_tools import stdout
 from aprsbook_tools.errors import ExitStatus, Fault
-from aprsbook_tools.system import atomic
 
 WIDTH = 79  # columns of help, on terminals that have them
 
 
 def help_width() -> int:
+    import shutil  # for help alone, as textwrap below
+
     return max(20, min(WIDTH, shutil.get_terminal_size().columns - 1))
 
 
-class Help(argparse.RawDescriptionHelpFormatter):
-    """Help of at most so many columns."""
-
-    def __init__(self, prog: str) -> None:
-        super().__init__(prog, max_help_position=24, width=help_width())
+def formatter(width: int) -> Any:
+    """What makes help of at most so many columns."""
+    return functools.partial(
+        argparse.RawDescriptionHelpFormatter, max_help_position=24, width=width)
 
 
 def filled(text: str, width: int) -> str:
     """A text whose paragraphs are filled anew; one that begins with a blank stands as it is."""
+    import textwrap
+
     return "\n\n".join(
         it if it.startswith(" ") else textwrap.fill(
             " ".join(it.split()), width, break_long_words=False, break_on_hyphens=False)
@@ -36,6 +38,8 @@ def filled(text: str, width: int) -> str:
 
 def examples_text(examples: Iterable[Tuple[str, str]], width: int) -> str:
     """Examples: what each does, and the command."""
+    import textwrap
+
     lines = [f"  {command}\n" + textwrap.indent(textwrap.fill(words, width - 6), " " * 6)
              for words, command in examples]
     return "\n".join(["examples:", *lines]) if lines else ""
@@ -46,19 +50,24 @@ class Parser(argparse.ArgumentParser):
 
     def __init__(self, name: str, description: str,
                  examples: Sequence[Tuple[str, str]] = ()) -> None:
-        width = help_width()
         super().__init__(
-            prog=f"aprs-net {name}", description=filled(description, width).replace("%", "%%"),
-            epilog=examples_text(examples, width).replace("%", "%%"), formatter_class=Help,
-            allow_abbrev=False)
+            prog=f"aprs-net {name}", formatter_class=formatter(WIDTH), allow_abbrev=False)
         self.name, self.said, self.examples = name, description, examples
 
     def error(self, message: str) -> NoReturn:
         raise Fault(f"{message} (see aprs-net help {self.name})", ExitStatus.ARGUMENTS)
 
+    def format_help(self) -> str:
+        """Its help, as wide as the terminal."""
+        width = help_width()
+        self.formatter_class = formatter(width)
+        self.description = filled(self.said, width).replace("%", "%%")
+        self.epilog = examples_text(self.examples, width).replace("%", "%%")
+        return super().format_help()
+
     def print_help(self, file: Optional[IO[str]] = None) -> None:
         """Its help on standard output; a Fault where that takes nothing."""
-        atomic.write_out(self.format_help().encode())
+        stdout.write(self.format_help().encode())
 
 
 def module_of(name: str) -> ModuleType:

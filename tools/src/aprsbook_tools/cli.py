@@ -5,7 +5,7 @@ import signal
 import sys
 from typing import List, NoReturn, Optional, Sequence, Tuple
 
-from aprsbook_tools import VERSION, commands, signals, stderr
+from aprsbook_tools import VERSION, commands, signals, stderr, stdout
 from aprsbook_tools.errors import NO_ROOM, ExitStatus, Fault, words_of
 
 HELP = """\
@@ -53,9 +53,8 @@ def help_text() -> str:
 
 
 def write_out(text: str) -> int:
-    from aprsbook_tools.system import atomic
-
-    atomic.write_out(text.encode())
+    """Prints a text; the status."""
+    stdout.write(text.encode())
     return ExitStatus.DONE
 
 

@@ -2,10 +2,11 @@
 closed or on a full disk, what is done goes on."""
 import enum
 import os
-import re
 import select
 import sys
 from typing import Set
+
+from aprsbook_tools.formats.forms import form
 
 
 class Level(enum.IntEnum):
@@ -20,7 +21,7 @@ LEVEL_OF = {"--quiet": Level.QUIET, "--verbose": Level.VERBOSE}
 _level = Level.PLAIN
 _said: Set[str] = set()
 # what moves a terminal's cursor, colours it or turns the writing round
-ORDER = re.compile("[\x00-\x09\x0b-\x1f\x7f-\x9f\u200e\u200f\u2028-\u202e\u2066-\u2069]")
+ORDER = form("[\x00-\x09\x0b-\x1f\x7f-\x9f\u200e\u200f\u2028-\u202e\u2066-\u2069]")
 
 
 def set_level(level: Level) -> None:

@@ -1,6 +1,5 @@
 """What reports have in common: their arguments, and tables of fields with names in each format."""
 import argparse
-import json
 import os
 import sys
 from typing import Iterable, Iterator, List, Optional, Sequence, Type, TypeVar
@@ -93,6 +92,8 @@ def columns_text(head: Sequence[str], rows: Rows) -> str:
 
 def json_lines(head: Sequence[str], rows: Rows) -> Iterator[str]:
     """A table as a list of objects, each on a line of its own."""
+    import json  # for this format alone
+
     before = "[\n"
     for row in rows:
         yield before + json.dumps(dict(zip(head, row)), ensure_ascii=False)

@@ -10,7 +10,7 @@ import pytest
 from aprsbook_tools import stderr
 from aprsbook_tools.books import inputs, mending, net_logs
 from aprsbook_tools.errors import Fault
-from aprsbook_tools.system import zstd
+from aprsbook_tools.system import programs
 from conftest import EVENING, tried
 
 LINE = b"2024-06-21T18:00:00.000Z RX1 c0\n"
@@ -63,7 +63,7 @@ def test_what_zstd_packed_is_read(tmp_path: pathlib.Path, monkeypatch: pytest.Mo
     packed.write_bytes(packed.read_bytes()[:-20])
     with pytest.raises(Fault, match="can't be unpacked to its end"):
         list(inputs.blocks(str(packed)))
-    monkeypatch.setattr(zstd, "is_there", lambda: False)
+    monkeypatch.setattr(programs, "is_there", lambda _: False)
     assert "install zstd" in inputs.look_at(str(packed)).fault
 
 

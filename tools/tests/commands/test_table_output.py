@@ -1,5 +1,4 @@
 """The formats of reports."""
-import dataclasses
 import json
 import xml.etree.ElementTree
 
@@ -16,7 +15,7 @@ REPORTS = [["last-heard"], ["places"], ["tracks"], ["messages"], ["stations"], [
 def said(programs: Programs) -> Programs:
     programs.say(place("18:00", "Q1A", 1.5, 2, text='=1+1, "x"'), row("status", "18:05", "Q1B"),
                  message("18:10", "Q1A", "Q1B", "caf\u00e9\ttwo"),
-                 dataclasses.replace(station("18:00", "Q1A"), latitude=1.5, longitude=2.0))
+                 station("18:00", "Q1A")._replace(latitude=1.5, longitude=2.0))
     (programs.folder / "names").write_text("Q1A Leader\nQ1GONE\n", encoding="utf-8")
     (programs.folder / "points").write_text("CP 1.5 2 100\n", encoding="utf-8")
     return programs

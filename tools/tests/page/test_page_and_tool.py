@@ -1,6 +1,5 @@
 """The page and the tool say the same of 200 random logs, and of as many tables: tracks, messages,
 rosters, clocks and texts. Logs need the programs, and tables none."""
-import dataclasses
 import json
 import pathlib
 import random
@@ -132,8 +131,8 @@ def row_of(some: random.Random) -> Row:
     ears = some.choice([("RX1",), ("RX2",), ("RX1", "RX2")])
     later = at(time)[:20] + f"{some.randrange(1000):03}Z"
     path = tuple(filter(None, some.choice(PATHS).split(",")))
-    return dataclasses.replace(it, last=later, receivers=ears, receiver=ears[-1], via=path,
-                               gate=some.choice(["", "", "", "Q1GATE"]))
+    return it._replace(last=later, receivers=ears, receiver=ears[-1], via=path,
+                       gate=some.choice(["", "", "", "Q1GATE"]))
 
 
 def roster_of(some: random.Random) -> str:

@@ -13,7 +13,6 @@ from aprsbook_tools.errors import Fault
 from aprsbook_tools.formats.spreadsheet import read_csv
 from aprsbook_tools.reports import databases, table_files
 from aprsbook_tools.reports.roster import Roster
-from aprsbook_tools.reports.table import Columns
 
 
 def asked(path: pathlib.Path, what: str) -> List[Any]:
@@ -280,7 +279,6 @@ def test_columns_that_are_empty_are_one() -> None:
     ("a", [1]), ("aab", [2, 1]), ("abbc", [1, 2, 1]), ("abca", [4]), ("", [])])
 def test_rows_of_a_kind_are_put_in_at_once(kinds: str, sizes: List[int]) -> None:
     """Where there are few kinds one behind another; all rows stand in their order."""
-    columns: Columns = [[*kinds], [str(at) for at, _ in enumerate(kinds)]]
-    parts = [*databases.parts_of(columns)]
-    assert [len(it[0]) for it in parts if it[0]] == sizes
-    assert [cell for it in parts for cell in it[1]] == columns[1]
+    parts = [*databases.parts_of(kinds)]
+    assert [end - begin for begin, end in parts] == sizes
+    assert [at for it in parts for at in range(*it)] == [*range(len(kinds))]

@@ -1,12 +1,16 @@
 """Who was heard last, and who of those expected wasn't."""
-import dataclasses
+import collections
+import itertools
 import pathlib
-from typing import List
+from typing import Dict, List, Tuple
 
 import pytest
+from hypothesis import given
+from hypothesis import strategies as st
 from standing import Programs, at, place, row, table_text
 
 from aprsbook_tools.reports import last_heard, receiver_clocks, table
+from aprsbook_tools.reports.last_heard import Heard
 
 
 def test_who_never_sent_a_position_was_heard(programs: Programs) -> None:
@@ -102,7 +106,7 @@ def test_one_clock_an_hour_ahead_makes_nobody_last(programs: Programs) -> None:
 
 def test_copies_that_came_another_way_say_that_a_clock_is_wrong(programs: Programs) -> None:
     """What C heard through a digipeater is of the same text; of a time it wasn't."""
-    programs.say(*(dataclasses.replace(it, via=("Q1DIGI*",)) if it.receiver == "C" else it
+    programs.say(*(it._replace(via=("Q1DIGI*",)) if it.receiver == "C" else it
                    for it in HOUR_AHEAD))
     heard = programs.lines("last-heard", "--from", "2024-06-21T18:09", "net.log")[1:]
     assert [it[:4] for it in heard] == [[at("18:10"), "RX1", "Q1X", "2"]]
@@ -127,6 +131,59 @@ def test_a_text_goes_on_where_rows_come_in_parts(monkeypatch: pytest.MonkeyPatch
                                                  ) -> None:
     monkeypatch.setattr(table, "BATCH", size)
     test_a_text_of_nine_rows_says_nothing_of_a_clock()
+
+
+def text_in(it: table.Row) -> Tuple[object, ...]:
+    """What a row tells, but for when, by whom and by which way it was heard."""
+    return tuple(value for name, value in zip(it._fields, it)
+                 if name not in ("kind", "first", "last", "receivers", "receiver", "via"))
+
+
+def heard_row_by_row(rows: List[table.Row]) -> List[Heard]:
+    """What `heard_of` finds, of one row after another, each of which is a tuple."""
+    pairs = receiver_clocks.Pairs()
+    counts: Dict[Tuple[str, str], List[int]] = {}
+    last: Dict[Tuple[str, str], Tuple[str, str]] = {}
+    for _, own in itertools.groupby(rows, text_in):
+        alike = [*own]
+        pairs.compare([it.first for it in alike], [",".join(it.receivers) for it in alike])
+    for it in rows:
+        names = ",".join(it.receivers)
+        pairs.together[names] += 1
+        for what, call in enumerate([it.source, it.gate] if it.gate else [it.source]):
+            counts.setdefault((call, names), [0, 0])[what] += 1
+            last[call, names] = max(last.get((call, names), ("", "")), (it.last, it.receiver))
+    ahead, found = pairs.wrong(30), collections.defaultdict(list)
+    for (call, names), (moment, receiver) in last.items():
+        right = receiver_clocks.moment_of(moment, names, ahead)
+        sent, passed = counts[call, names]
+        found[call].append(Heard(call, sent, moment, receiver, passed, right))
+    return [last_heard.joined(found[call]) for call in sorted(found) if " " not in call]
+
+
+Told = Tuple[int, int, str, str, str, str, str, Tuple[str, ...]]
+LISTS = ["A", "B", "C", "A,B", "A,B,C", "D"]
+CALLS = st.sampled_from(["Q1A", "Q1B-7", "Q 1"])
+TOLD = st.tuples(
+    st.integers(0, 59), st.integers(0, 59), st.sampled_from(LISTS), CALLS,
+    st.sampled_from(["", "", "Q1GATE"]), st.sampled_from(["APRS", "APX"]),
+    st.sampled_from(["one", "two"]), st.sampled_from([(), ("Q1DIGI*",)]))
+
+
+@pytest.mark.parametrize("size", [1, 3, 200])
+@given(st.lists(TOLD, max_size=40), st.booleans())
+def test_columns_tell_what_rows_tell(size: int, told: List[Told], is_sorted: bool) -> None:
+    rows = [row("status", f"18:{first:02}", source, last=at(f"18:{last:02}"), gate=gate, via=via,
+                receivers=tuple(names.split(",")), receiver=names.split(",")[last % 2 - 1],
+                destination=to, text=text)
+            for first, last, names, source, gate, to, text, via in told]
+    rows = sorted(rows, key=text_in) if is_sorted else rows
+    lines = table_text(table.Row, rows).splitlines()
+    with pytest.MonkeyPatch.context() as patch:
+        patch.setattr(table, "BATCH", size)
+        found = last_heard.heard_of(
+            table.columns(table.Row, lines, names=last_heard.COLUMNS))
+    assert found == heard_row_by_row(rows)
 
 
 def test_a_time_is_that_of_clocks_that_are_right(programs: Programs, tmp_path: pathlib.Path

@@ -23,7 +23,7 @@ from aprsbook_tools.books.executors import Engine
 from aprsbook_tools.books.inputs import Input
 from aprsbook_tools.errors import ExitStatus, Fault
 from aprsbook_tools.formats import book_file, limits
-from aprsbook_tools.system import atomic, disk, programs
+from aprsbook_tools.system import atomic, disk, packing, programs
 
 READ = limits.MOST_INPUT  # no more of an input is read by programs that hold a book in memory
 Say = Callable[[str], None]
@@ -143,7 +143,7 @@ def say_what_is_gone(path: str, before: Dict[str, Any], items: Sequence[Input], 
     now = {it.path: it for it in items}
     for name, (size, changed) in sorted(before.get("inputs", {}).items()):
         if name not in now:
-            is_packed = any(name + ending in now for ending in inputs.PACKED)
+            is_packed = any(name + ending in now for ending in packing.OPENERS)
             # one that is there, and isn't named this time, is nothing to tell of
             if not is_packed and not os.path.lexists(name):
                 say(f"{name} is gone: what {path} has of it stays")
@@ -314,7 +314,7 @@ def of_each(plan: Plan, items: Sequence[Input], wish: Wish, pass_over: PassOver)
 def rescued(plan: Plan, path: str, why: str, leave_out: PassOver) -> List[Input]:
     """What can be taken of an input that is faulty or gone: what it has become since, where it was
     packed meanwhile, or else the whole lines of a log, which is said."""
-    packed = [path + it for it in inputs.PACKED if os.path.exists(path + it)]
+    packed = [path + it for it in packing.OPENERS if os.path.exists(path + it)]
     if packed and not os.path.lexists(path):
         return [inputs.look_at(packed[0])]
     it = inputs.look_at(path)

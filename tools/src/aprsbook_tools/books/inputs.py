@@ -1,37 +1,24 @@
 """Logs and books as files: those below folders, their days, and compressed ones unpacked."""
-import bz2
 import contextlib
-import dataclasses
-import gzip
 import io
-import lzma
 import os
 import re
 import stat
-import tempfile
-import zlib
-from typing import (
-    IO, Callable, Dict, Iterable, Iterator, List, Optional, Sequence, Set, Tuple, cast)
+from typing import IO, Dict, Iterable, Iterator, List, NamedTuple, Optional, Sequence, Set, Tuple
 
 from aprsbook_tools import stderr
 from aprsbook_tools.errors import ExitStatus, Fault, said
 from aprsbook_tools.formats import book_file, log_file
-from aprsbook_tools.system import programs, zstd
+from aprsbook_tools.formats.forms import form
+from aprsbook_tools.system import packing, programs, temporary
 
-PACKED: Dict[str, Callable[[str], IO[bytes]]] = {
-    ".gz": lambda path: cast(IO[bytes], gzip.open(path, "rb")),
-    ".xz": lambda path: cast(IO[bytes], lzma.open(path, "rb")),
-    ".bz2": lambda path: cast(IO[bytes], bz2.open(path, "rb")),
-    ".zst": zstd.opened,
-}
-KIND = re.compile(r"[^.].*\.(log|book)(?:\.gz|\.xz|\.bz2|\.zst)?", re.DOTALL)
-MISNAMED = re.compile(r"[^.].*\.log(?![a-z]).*", re.DOTALL | re.IGNORECASE)
+KIND = form(r"[^.].*\.(log|book)(?:\.gz|\.xz|\.bz2|\.zst)?", re.DOTALL)
+MISNAMED = form(r"[^.].*\.log(?![a-z]).*", re.DOTALL | re.IGNORECASE)
 NAMED = 5  # files that are named in one line
-DAY = re.compile(r"(?:19|20)[0-9]{2}-[0-9]{2}-[0-9]{2}")
+DAY = form(r"(?:19|20)[0-9]{2}-[0-9]{2}-[0-9]{2}")
 
 
-@dataclasses.dataclass(frozen=True, order=True)
-class Input:
+class Input(NamedTuple):
     """A log or a book. `day` is that of its path, or else of a log's first line, or nothing.
     `fault` says why it can't be read, where that is known."""
     day: str
@@ -49,7 +36,7 @@ class Input:
     def packing(self) -> str:
         """The ending of a compressed file, or nothing."""
         ending = os.path.splitext(self.path)[1]
-        return ending if ending in PACKED else ""
+        return ending if ending in packing.OPENERS else ""
 
 
 def is_input(path: str) -> bool:
@@ -70,7 +57,7 @@ def day_of(path: str) -> str:
     try:
         with opened(path) as file:
             begin = file.read(10).decode("ascii", "replace")
-    except (OSError, EOFError, lzma.LZMAError, zlib.error):
+    except packing.faults(OSError):
         return ""
     return begin if DAY.fullmatch(begin) else ""
 
@@ -88,7 +75,7 @@ def look_at(path: str) -> Input:
         fault = "no leave to read it"
     elif not status.st_size and re.search(r"\.book(\.[a-z0-9]+)?$", path):
         fault = "empty, which no book is"
-    elif path.endswith(".zst") and not zstd.is_there():
+    elif path.endswith(".zst") and not programs.is_there("zstd"):
         fault = "the program zstd isn't there: install zstd"
     day = day_said(path) if fault else day_of(path)
     return Input(day, path, status.st_size, status.st_mtime_ns, fault)
@@ -146,7 +133,8 @@ def of(paths: Iterable[str]) -> List[Input]:
 
 def opened(path: str) -> IO[bytes]:
     """A file to read from, unpacked."""
-    return PACKED.get(os.path.splitext(path)[1], lambda it: open(it, "rb"))(path)
+    opener = packing.OPENERS.get(os.path.splitext(path)[1])
+    return opener(path) if opener else open(path, "rb")
 
 
 @contextlib.contextmanager
@@ -155,7 +143,7 @@ def unpacking(path: str) -> Iterator[IO[bytes]]:
     try:
         with opened(path) as file:
             yield file
-    except (EOFError, lzma.LZMAError, zlib.error, OSError) as fault:
+    except packing.faults(OSError) as fault:
         if isinstance(fault, OSError) and fault.errno is not None:
             raise  # the system's, and not of what is packed
         raise Fault(f"{path}: can't be unpacked to its end: {fault}") from fault
@@ -203,12 +191,22 @@ def is_pipe(path: str) -> bool:
         return False
 
 
+def is_unpacked(it: Input, is_copied: bool) -> bool:
+    """Whether programs read a copy of an input: of one that is compressed or comes of a pipe, and
+    where all are copied of what can be read."""
+    return bool(it.packing) or is_pipe(it.path) or (is_copied and not it.fault)
+
+
+def are_as_they_are(items: Iterable[Input], is_copied: bool = False) -> bool:
+    """Whether programs read all inputs where they are."""
+    return all(is_utf_8(it.path) and not is_unpacked(it, is_copied) for it in items)
+
+
 def plain(items: Iterable[Input], folder: str, is_copied: bool = False) -> Iterator[str]:
-    """The paths of inputs as programs read them: compressed ones are unpacked into a folder, as is
-    what comes of a pipe, and where a path isn't UTF-8 there is a link to it. Where all are copied,
-    so is what can be read."""
+    """The paths of inputs as programs read them: copies are in a folder, and where a path isn't
+    UTF-8 there is a link to it."""
     for number, it in enumerate(items):
-        if it.packing or is_pipe(it.path) or (is_copied and not it.fault):
+        if is_unpacked(it, is_copied):
             path = os.path.join(folder, f"{number:06}.unpacked")
             unpack(it, path)
             yield path
@@ -229,7 +227,7 @@ def named(paths: Sequence[str]) -> Iterator[List[str]]:
         for number, path in enumerate(paths):
             if not is_utf_8(path):
                 if not links:
-                    folder = stack.enter_context(tempfile.TemporaryDirectory(prefix="aprs-net-"))
+                    folder = stack.enter_context(temporary.folder())
                 links[path] = os.path.join(folder, f"{number:06}.named")
                 os.symlink(os.path.abspath(path), links[path])
         try:

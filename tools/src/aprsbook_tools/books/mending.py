@@ -1,12 +1,11 @@
 """The whole lines of a log that was cut short, has holes, or was saved by an editor as UTF-16."""
 import codecs
 import io
-import lzma
-import zlib
 from typing import IO, Any, Iterator, Optional, cast
 
 from aprsbook_tools.books import inputs
 from aprsbook_tools.formats import log_file
+from aprsbook_tools.system import packing
 
 # how a text in UTF-16 begins, with a byte order mark or with the first digits of a moment
 UTF_16 = {codecs.BOM_UTF16_LE: "utf-16", codecs.BOM_UTF16_BE: "utf-16", b"2\0": "utf-16-le",
@@ -72,7 +71,7 @@ def mend_into(path: str, into: str) -> Optional[Left]:
         try:
             with inputs.opened(path) as file:
                 mended.writelines(whole_lines(file, left))
-        except (EOFError, lzma.LZMAError, zlib.error):
+        except packing.faults():
             left.out += 1
         except OSError as fault:
             if fault.errno is not None:

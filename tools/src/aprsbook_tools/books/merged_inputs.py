@@ -2,14 +2,12 @@
 state of growing logs."""
 import contextlib
 import os
-import shutil
-import tempfile
 from typing import IO, ContextManager, Iterator, List, Optional, Sequence
 
 from aprsbook_tools import stderr
 from aprsbook_tools.books import inputs
 from aprsbook_tools.errors import Fault
-from aprsbook_tools.system import programs, streams
+from aprsbook_tools.system import programs, streams, temporary
 
 
 @contextlib.contextmanager
@@ -18,10 +16,10 @@ def spooled(paths: Sequence[str]) -> Iterator[List[str]]:
     if paths and "-" not in paths:
         yield list(paths)
         return
-    with tempfile.TemporaryDirectory(prefix="aprs-net-") as folder:
+    with temporary.folder() as folder:
         path = os.path.join(folder, "standard input")
         with streams.opened(None) as given, open(path, "wb") as file:
-            shutil.copyfileobj(given, file)
+            file.writelines(programs.blocks_in(given))
         try:
             yield [path if it == "-" else it for it in paths or ["-"]]
         except Fault as fault:
@@ -38,7 +36,8 @@ def plain(paths: Sequence[str], most_copied: int = -1) -> Iterator[List[str]]:
         streams.say_what_is_awaited()
         yield []
         return
-    with tempfile.TemporaryDirectory(prefix="aprs-net-") as folder, spooled(paths) as paths:
+    with contextlib.ExitStack() as stack:
+        paths = stack.enter_context(spooled(paths))
         found = inputs.of(paths)
         if not found:
             raise Fault(f"no logs and no books are in {' '.join(paths)}")
@@ -50,6 +49,8 @@ def plain(paths: Sequence[str], most_copied: int = -1) -> Iterator[List[str]]:
             found.remove(it)
         # what is named is read, also a pipe, as the shell's <(..)
         is_copied = sum(it.size for it in found) <= most_copied
+        has_copies = not inputs.are_as_they_are(found, is_copied)
+        folder = stack.enter_context(temporary.folder()) if has_copies else ""
         files = list(inputs.plain(found, folder, is_copied))
         for it, file in zip(found, files):
             if it.is_book and it.packing and not os.path.getsize(file):
@@ -59,7 +60,7 @@ def plain(paths: Sequence[str], most_copied: int = -1) -> Iterator[List[str]]:
         except Fault as fault:
             words = fault.words
             for it, file in zip(found, files):
-                if file.startswith(folder):
+                if folder and file.startswith(folder):
                     words = words.replace(file, it.path)
             raise Fault(words, fault.status, fault.by) from fault
 
@@ -91,7 +92,7 @@ def is_one_book(paths: Sequence[str]) -> bool:
 def book(paths: Sequence[str], gap: Optional[int], given: programs.Given = None) -> Iterator[str]:
     """The path of the book of inputs, or of standard input, in a folder that goes away. A Fault of
     it names the book that it is a copy of."""
-    with tempfile.TemporaryDirectory(prefix="aprs-net-") as folder:
+    with temporary.folder() as folder:
         path = os.path.join(folder, "net.book")
         if given is not None or not is_one_book(paths):
             with open(path, "wb") as file:
@@ -100,7 +101,7 @@ def book(paths: Sequence[str], gap: Optional[int], given: programs.Given = None)
             return
         programs.check_inputs(paths)
         with streams.opened(paths[0]) as whole, open(path, "wb") as file:
-            shutil.copyfileobj(whole, file, programs.BLOCK)
+            file.writelines(programs.blocks_in(whole))
         try:
             yield path
         except Fault as fault:
@@ -111,7 +112,7 @@ def book(paths: Sequence[str], gap: Optional[int], given: programs.Given = None)
 @contextlib.contextmanager
 def book_of(files: Sequence[str], gap: Optional[int]) -> Iterator[str]:
     """The same of files that programs read."""
-    with tempfile.TemporaryDirectory(prefix="aprs-net-") as folder:
+    with temporary.folder() as folder:
         path = os.path.join(folder, "net.book")
         with open(path, "wb") as file:
             write_book_of(file, files, gap)

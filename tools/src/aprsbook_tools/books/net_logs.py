@@ -2,18 +2,16 @@
 import argparse
 import contextlib
 import datetime
-import gzip
 import io
-import lzma
 import os
 import re
-import zlib
 from dataclasses import dataclass, field
 from typing import Iterator, List, Mapping, Sequence, Tuple
 
 from aprsbook_tools.books import inputs
 from aprsbook_tools.errors import ExitStatus, Fault
 from aprsbook_tools.formats import log_file
+from aprsbook_tools.system import packing
 
 DAY = datetime.timedelta(days=1)
 
@@ -101,7 +99,7 @@ def octets_of(path: str) -> Tuple[bytes, str]:
         with inputs.opened(path) as file:
             while not parts or parts[-1]:
                 parts.append(file.read(log_file.BLOCK))
-    except (EOFError, lzma.LZMAError, zlib.error, gzip.BadGzipFile):
+    except packing.faults():
         why = "can't be read to its end"
     except OSError as fault:
         why = f"can't be read to its end ({fault.strerror or fault})"

@@ -6,12 +6,12 @@ from aprsbook_tools.books import bases, book, inputs
 from aprsbook_tools.books.building import Plan
 from aprsbook_tools.books.inputs import Input
 from aprsbook_tools.errors import ExitStatus, Fault
-from aprsbook_tools.system import atomic, programs
+from aprsbook_tools.system import atomic, packing, programs
 
 
 def gap_for(old: str, wish: book.Wish) -> int:
     """The gap of the old book, which the wish has to have, if it has one."""
-    if os.path.splitext(old)[1] in inputs.PACKED:
+    if os.path.splitext(old)[1] in packing.OPENERS:
         raise Fault(f"{old} is compressed: unpack it, since it is read twice", ExitStatus.ARGUMENTS)
     if not os.path.isfile(old):
         raise Fault(f"{old}: no such book")

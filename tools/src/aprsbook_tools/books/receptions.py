@@ -5,8 +5,7 @@ Who was heard direct is known of each copy alone. So the n-th line of a log is g
 one second: no two are copies of one transmission then. The row's moment says which line it was.
 """
 import io
-from dataclasses import dataclass
-from typing import Iterable, Iterator, List, Sequence
+from typing import Iterable, Iterator, List, NamedTuple, Sequence
 
 from aprsbook_tools import stderr
 from aprsbook_tools.books import inputs, one_name
@@ -20,8 +19,7 @@ from aprsbook_tools.reports.table import Row
 APART = 2000  # milliseconds between two lines
 
 
-@dataclass(frozen=True)
-class Reception:
+class Reception(NamedTuple):
     """What a receiver heard at a moment in milliseconds."""
 
     moment: int

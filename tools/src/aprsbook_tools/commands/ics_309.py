@@ -1,11 +1,10 @@
 """The communications log of a net, as the form ICS 309 has it."""
 import argparse
-import re
-from dataclasses import dataclass
 from typing import Iterable, Iterator, List, Sequence, Tuple
 
 from aprsbook_tools import arguments, table_output
 from aprsbook_tools.formats import moments
+from aprsbook_tools.formats.forms import form
 from aprsbook_tools.formats.spreadsheet import Cell
 from aprsbook_tools.reports.roster import Expected, Roster, call_of, roster_of
 from aprsbook_tools.reports.table import Message
@@ -17,10 +16,9 @@ NAMES = ["from_name", "to_name"]
 # how the form says a state of the table
 ANSWERS = {"acknowledged": "ack", "rejected": "rej", "unanswered": "no ack"}
 DESK = "desk"  # the column of the desk that wrote a line down
-BULLETIN = re.compile("BLN|NWS-")
+BULLETIN = form("BLN|NWS-")
 
 
-@dataclass(frozen=True)
 class Spoken(Message):
     """A line of voice traffic, and the desk that wrote it down."""
 
@@ -59,8 +57,10 @@ def spoken(journals: Journals, args: argparse.Namespace) -> Iterator[Message]:
     for it in journals.lines:
         if arguments.is_within(args, it.moment):
             first, text = moments.text_of(it.moment), " ".join(it.text.split())
-            yield Spoken(first=first, source=it.sender, addressee=it.addressee, id=it.number,
-                         text=text, desk=it.desk)
+            said = Spoken(first=first, source=it.sender, addressee=it.addressee, id=it.number,
+                          text=text)
+            said.desk = it.desk
+            yield said
 
 
 def chosen(messages: Sequence[Message], args: argparse.Namespace) -> List[Message]:

@@ -9,13 +9,14 @@ from aprsbook_tools.books import merged_inputs
 from aprsbook_tools.books.receptions import Reception, receptions_of
 from aprsbook_tools.errors import ExitStatus, Fault
 from aprsbook_tools.formats import book_file, log_file, moments
+from aprsbook_tools.formats.forms import form
 from aprsbook_tools.formats.spreadsheet import Cell
 from aprsbook_tools.geo import Spot
 from aprsbook_tools.reports import digipeater_stats
 from aprsbook_tools.reports.roster import Roster, call_of, roster_of
 
-AT = re.compile(rf"(?:({log_file.RECEIVER})=)?(-?[0-9.]+),(-?[0-9.]+)", re.ASCII)
-CALL_AT = re.compile(rf"(?:({log_file.RECEIVER})=)?([A-Za-z0-9-]+)", re.ASCII)
+AT = form(rf"(?:({log_file.RECEIVER})=)?(-?[0-9.]+),(-?[0-9.]+)", re.ASCII)
+CALL_AT = form(rf"(?:({log_file.RECEIVER})=)?([A-Za-z0-9-]+)", re.ASCII)
 
 
 class Asked(NamedTuple):

@@ -3,7 +3,7 @@ import argparse
 import os
 from typing import List, Sequence
 
-from aprsbook_tools import stderr
+from aprsbook_tools import stderr, stdout
 from aprsbook_tools.books import mail
 from aprsbook_tools.books.mail import Neighbour
 from aprsbook_tools.errors import ExitStatus, Fault
@@ -56,7 +56,7 @@ def write(neighbour: Neighbour, book: str) -> None:
             stderr.note(f"{neighbour.folder}: nothing is new")
             return
         waiting = [made]
-    atomic.write_out("".join(f"{it}\n" for it in waiting).encode("utf-8", "surrogateescape"))
+    stdout.write("".join(f"{it}\n" for it in waiting).encode("utf-8", "surrogateescape"))
 
 
 def mark_sent(neighbour: Neighbour) -> None:

@@ -1,6 +1,5 @@
 """Who of those expected wasn't heard, and since when."""
 import argparse
-import dataclasses
 from typing import Dict, Iterable, List, Optional
 
 from aprsbook_tools import table_output
@@ -48,9 +47,7 @@ def last_of(entry: Expected, stations: Iterable[Heard]) -> Optional[Heard]:
     own = [it for it in stations if entry.is_of(it.call)]
     if not own:
         return None
-    return dataclasses.replace(
-        max(own, key=lambda it: it.order), transmissions=sum(it.transmissions for it in own),
-        passed=sum(it.passed for it in own))
+    return last_heard.joined(own)
 
 
 def line_of(entry: Expected, last: Optional[Heard]) -> List[Cell]:

@@ -3,7 +3,6 @@ import argparse
 import concurrent.futures
 import contextlib
 import itertools
-import tempfile
 from typing import IO, Dict, Iterator, Optional
 
 from aprsbook_tools import arguments, table_output
@@ -11,7 +10,7 @@ from aprsbook_tools.books import executors, merged_inputs
 from aprsbook_tools.reports import databases, table
 from aprsbook_tools.reports.roster import roster_of
 from aprsbook_tools.reports.table import Columns, Time
-from aprsbook_tools.system import atomic, programs
+from aprsbook_tools.system import atomic, programs, temporary
 
 DESCRIPTION = """\
 Makes the tables transmissions, messages, stations and things of logs and books, and the views
@@ -48,7 +47,7 @@ def tables_of(book: str, gap: Optional[int], time: Time) -> Iterator[Dict[str, I
     with contextlib.ExitStack() as files, executors.threads(1) as pool:
         for name in others:
             command = programs.with_gap(["aprsbook-table", name], gap, [book])
-            file = files.enter_context(tempfile.TemporaryFile())
+            file = files.enter_context(temporary.file())
             lines[name] = lines_of(pool.submit(programs.run, *command, into=file), file)
         yield {name: table.columns(databases.TABLES[name], it, table.Wanted(time))
                for name, it in lines.items()}

@@ -1,10 +1,9 @@
 """aprs-net token: the tokens of a net that is served."""
 import argparse
 
-from aprsbook_tools import arguments
+from aprsbook_tools import arguments, stdout
 from aprsbook_tools.errors import ExitStatus, Fault
 from aprsbook_tools.serving import tokens
-from aprsbook_tools.system import atomic
 
 DESCRIPTION = """\
 Makes a token, adds it to FILE, which nobody else may read, and prints it. `receiver NAME` may push
@@ -35,9 +34,9 @@ def run(args: argparse.Namespace) -> int:
         raise Fault("a KIND has a NAME", ExitStatus.ARGUMENTS)
     if args.kind is None:
         grants, faults = tokens.read_grants(args.file)
-        atomic.write_out("".join(f"{it}\n" for it in [*grants, *faults]).encode())
+        stdout.write("".join(f"{it}\n" for it in [*grants, *faults]).encode())
     elif args.remove:
         tokens.remove(args.file, args.kind, args.name)
     else:
-        atomic.write_out(f"{tokens.add(args.file, args.kind, args.name)}\n".encode())
+        stdout.write(f"{tokens.add(args.file, args.kind, args.name)}\n".encode())
     return 0

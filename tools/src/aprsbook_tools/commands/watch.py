@@ -8,7 +8,7 @@ import subprocess
 import time
 from typing import Dict, List, Optional, Set, Tuple, Union
 
-from aprsbook_tools import arguments, stderr
+from aprsbook_tools import arguments, stderr, stdout
 from aprsbook_tools.books import merged_inputs, net_logs
 from aprsbook_tools.errors import ExitStatus, Fault, words_of
 from aprsbook_tools.reports import alerts, last_heard, receiver_clocks, table
@@ -107,7 +107,7 @@ def tell(alert: Alert, command: Optional[str]) -> bool:
 def fault_of_output(alert: Alert) -> str:
     """Tells of an alert on standard output; why that can't be, or nothing."""
     try:
-        atomic.write_out(f"{alert.kind}: {alert.words}\n".encode("utf-8", "surrogateescape"))
+        stdout.write(f"{alert.kind}: {alert.words}\n".encode("utf-8", "surrogateescape"))
     except Fault as fault:
         return fault.words
     return ""

@@ -1,8 +1,9 @@
 """Addresses of AX.25 frames: made of texts of other programs, and read as far as a log needs."""
-import re
 from typing import List, Optional, Tuple
 
-CALL = re.compile(r"([A-Z0-9]{1,6})(?:-(0|[1-9]|1[0-5]))?")
+from aprsbook_tools.formats.forms import form
+
+CALL = form(r"([A-Z0-9]{1,6})(?:-(0|[1-9]|1[0-5]))?")
 UI = b"\x03\xf0"  # control and PID
 MOST = 256  # bytes of information
 HOPS = 8  # digipeaters

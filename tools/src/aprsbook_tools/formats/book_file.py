@@ -1,17 +1,17 @@
 """Book files: how they begin, their gap, and the receptions that their rows have."""
-import re
 from typing import IO, Iterator, NamedTuple, Optional
 
 from aprsbook_tools.errors import Fault
 from aprsbook_tools.formats import limits, log_file, moments
+from aprsbook_tools.formats.forms import form
 
 BEGIN = b"APRSBOOK"  # so a book begins, and no line of a log
 # seconds, where nothing says another gap, as in books of an older program
 GAP = limits.STANDARD_GAP
 HEAD = 20  # bytes: no first line is longer
-FIRST = re.compile(rb"APRSBOOK (?:[12]|3 ([0-9]{1,4}))\n")
-ROW = re.compile(rb"T [^ ]+ (?P<moment>[^ ]+) [^ ]+ (?P<receiver>%s) (?P<frame>(?:[0-9a-f]{2})+)\n"
-                 % log_file.RECEIVER.encode())
+FIRST = form(rb"APRSBOOK (?:[12]|3 ([0-9]{1,4}))\n")
+ROW = form(rb"T [^ ]+ (?P<moment>[^ ]+) [^ ]+ (?P<receiver>%s) (?P<frame>(?:[0-9a-f]{2})+)\n"
+           % log_file.RECEIVER.encode())
 
 
 class Greatest(NamedTuple):

@@ -7,11 +7,11 @@ its lines are held.
 import collections
 import errno
 import os
-import re
 from typing import Callable, Deque, Dict, NamedTuple, Optional, Set, Tuple
 
 from aprsbook_tools.errors import said
 from aprsbook_tools.formats import limits, moments
+from aprsbook_tools.formats.forms import form
 from aprsbook_tools.system import disk
 from aprsbook_tools.system.clock import CLOCK
 
@@ -24,11 +24,11 @@ LINE = limits.MOST_LINE  # bytes before the line feed: no line of a log is longe
 BLOCK = 65536  # bytes that are read at a time
 HELD = 10_000  # frames: so many are held while there is no room
 RECEIVER = f"[A-Za-z0-9_-]{{1,{limits.MOST_NAME}}}"  # the name of a receiver
-FORM = re.compile(
+FORM = form(
     rb"([0-9TZ.:-]{20,24}) (%s) ([0-9A-Fa-f]*)" % RECEIVER.encode())
 MOMENT = b"0000-00-00T00:00:00.000Z "  # a line begins so, with other digits
 DIGITS = bytes.maketrans(b"123456789", b"000000000")
-REST = re.compile(rb"[A-Za-z0-9_-]{0,16}(?:(?<! ) [0-9A-Fa-f]*)?\r?")
+REST = form(rb"[A-Za-z0-9_-]{0,16}(?:(?<! ) [0-9A-Fa-f]*)?\r?")
 SYNC = 5.0  # seconds: what was written is on the disk after so many
 LOCK = 1.0  # seconds for another program to end with a log, before it is said
 

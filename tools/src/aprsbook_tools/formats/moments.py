@@ -1,29 +1,34 @@
 """Moments: milliseconds since 1970-01-01T00:00:00Z, and their text in logs, books and tables."""
-import datetime
 import functools
 import re
 
 from aprsbook_tools.formats import limits
+from aprsbook_tools.formats.forms import form
 
 DAY = 86_400_000  # milliseconds
 END = limits.LAST_MILLISECOND + 1  # the first moment that is none: 2100-01-01
 
-FORM = re.compile(
+FORM = form(
     r"(\d{4}-\d\d-\d\dT\d\d:\d\d):(\d\d)(?:\.(\d{3}))?Z", re.ASCII)
-EPOCH = datetime.datetime(1970, 1, 1)
+FIRST_DAY = 719_163  # 1970-01-01, as `datetime` counts days
 
 
 @functools.lru_cache(maxsize=4096)
 def minute_of(text: str) -> int:
     """The first millisecond of a minute, as 2024-06-21T18:00; ValueError where there is none."""
+    import datetime  # which takes longer than many a report
+
     when = datetime.datetime.fromisoformat(text)
-    return (when - EPOCH) // datetime.timedelta(milliseconds=1)
+    minutes = 60 * when.hour + when.minute
+    return DAY * (when.toordinal() - FIRST_DAY) + 60_000 * minutes
 
 
 @functools.lru_cache(maxsize=512)
 def day_text(day: int) -> str:
     """The date of the day so many days after the first."""
-    return f"{EPOCH + datetime.timedelta(days=day):%Y-%m-%d}"
+    import datetime
+
+    return datetime.date.fromordinal(FIRST_DAY + day).isoformat()
 
 
 def milliseconds(text: str) -> int:
@@ -48,9 +53,3 @@ def text_of(moment: int) -> str:
     seconds, milli = divmod(rest, 1000)
     minutes, second = divmod(seconds, 60)
     return f"{day_text(day)}T{minutes // 60:02}:{minutes % 60:02}:{second:02}.{milli:03}Z"
-
-
-def datetime_of(text: str) -> datetime.datetime:
-    """A moment's text as a datetime in UTC."""
-    when = EPOCH + datetime.timedelta(milliseconds=milliseconds(text))
-    return when.replace(tzinfo=datetime.timezone.utc)

@@ -4,18 +4,17 @@ A text that begins like a formula gets an apostrophe before it, unless it is a n
 or @ after blanks and apostrophes, of any kind, or with a tab or an end of a line. Reading takes
 it away again.
 """
-import csv
-import io
-import re
 from typing import Iterable, List, Sequence, Union
+
+from aprsbook_tools.formats.forms import form
 
 Cell = Union[str, int, float, None]
 # blanks of all kinds, also those without a width
 BLANKS = r" \u00a0\u00ad\u061c\u115f\u1160\u1680\u180e\u2000-\u200f\u2028-\u202f\u205f-\u206f" \
     r"\u3000\u3164\ufeff\uffa0"
-FORMULA = re.compile(rf"'*[{BLANKS}]*[=+\-@\t\r\n\uff1d\uff0b\uff0d\uff20]")
-QUOTED = re.compile(r'[",\r\n]')
-NUMBER = re.compile(r"-?[0-9]+(\.[0-9]+)?")
+FORMULA = form(rf"'*[{BLANKS}]*[=+\-@\t\r\n\uff1d\uff0b\uff0d\uff20]")
+QUOTED = form(r'[",\r\n]')
+NUMBER = form(r"-?[0-9]+(\.[0-9]+)?")
 
 
 def looks_like_formula(text: str) -> bool:
@@ -61,4 +60,7 @@ def csv_text(rows: Iterable[Sequence[Cell]]) -> str:
 
 def read_csv(text: str) -> List[List[str]]:
     """The rows of such a CSV, as they were before they were guarded."""
+    import csv  # for what is read alone
+    import io
+
     return [[unguarded(cell) for cell in row] for row in csv.reader(io.StringIO(text, newline=""))]

@@ -6,7 +6,6 @@ import json
 import pathlib
 import pkgutil
 import re
-import tempfile
 import xml.etree.ElementTree
 import zipfile
 from typing import IO, Any, Dict, Iterator, List, Mapping, Optional
@@ -14,7 +13,7 @@ from typing import IO, Any, Dict, Iterator, List, Mapping, Optional
 import aprsbook_tools
 from aprsbook_tools.books import inputs
 from aprsbook_tools.errors import Fault
-from aprsbook_tools.system import programs, user_text
+from aprsbook_tools.system import programs, temporary, user_text
 
 TEMPLATE = "data/event.html"  # within the package, as `make event-page` builds it
 MISSING = (
@@ -90,7 +89,7 @@ def data_pieces(data: Dict[str, Any], tables: Mapping[str, IO[bytes]]) -> Iterat
     for name, file in tables.items():
         yield f'{before},"{name}":"'
         file.seek(0)
-        for block in iter(lambda: file.read(programs.BLOCK), b""):
+        for block in programs.blocks_in(file):
             yield in_html(json.dumps(block.decode("ascii"), ensure_ascii=False)[1:-1])
         before = '"'
     yield '"}'
@@ -191,7 +190,7 @@ def tables_of(book: str, gap: Optional[int]) -> Iterator[Dict[str, IO[bytes]]]:
     with contextlib.ExitStack() as stack, inputs.named([book]) as names:
         files: Dict[str, IO[bytes]] = {}
         for name in "rows", "messages":
-            files[name] = stack.enter_context(tempfile.TemporaryFile())
+            files[name] = stack.enter_context(temporary.file())
             command = programs.with_gap(["aprsbook-table", name], gap, names)
             programs.run(*command, into=files[name])
         yield files

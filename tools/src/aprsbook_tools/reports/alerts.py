@@ -1,6 +1,5 @@
 """What a net's control wants to be told: who is silent, what isn't answered, who is in distress."""
-from dataclasses import dataclass
-from typing import Dict, Iterable, List, Optional, Sequence
+from typing import Dict, Iterable, List, NamedTuple, Optional, Sequence
 
 from aprsbook_tools.formats import moments
 from aprsbook_tools.reports.last_heard import Heard
@@ -12,8 +11,7 @@ EMERGENCY = "emergency"
 COLUMNS = ("first", "last", "source", "latitude", "longitude", "says", "text")  # that are read
 
 
-@dataclass(frozen=True)
-class Alert:
+class Alert(NamedTuple):
     """Something to tell: its kind, whom it is about, since when, and in words. Two alerts `about`
     one thing since one moment are the same."""
 

@@ -6,17 +6,17 @@ next one, another lap, it has to be twice the circle's radius away in between.
 """
 import csv
 import re
-from dataclasses import dataclass, field
-from typing import List, Optional, Sequence, Tuple
+from typing import List, NamedTuple, Optional, Sequence, Tuple
 
 from aprsbook_tools.errors import Fault
 from aprsbook_tools.formats import moments
+from aprsbook_tools.formats.forms import form
 from aprsbook_tools.geo import Chord, Spot, chord, metres_between
 from aprsbook_tools.reports.tracks import Place, Thing
 
-NUMBER = re.compile(r"[-+]?[0-9]+([.,][0-9]*)?", re.ASCII)
-METRES = re.compile(r"([0-9]+(?:[.,][0-9]*)?) ?(m|km)?", re.ASCII)
-COMMENT = re.compile(r"(^|\s)#.*")
+NUMBER = form(r"[-+]?[0-9]+([.,][0-9]*)?", re.ASCII)
+METRES = form(r"([0-9]+(?:[.,][0-9]*)?) ?(m|km)?", re.ASCII)
+COMMENT = form(r"(^|\s)#.*")
 FORM = "`Tarn 54.5183 -3.5216 150`: a name, degrees north and east, metres"
 AWAY = 2  # radii from a checkpoint, after which coming back is another lap
 FASTEST = 300  # kilometres an hour, on the ground
@@ -24,8 +24,7 @@ HIGH = 3000  # metres: what flies higher may be faster
 LATE = 30.0  # seconds by which a copy may be late
 
 
-@dataclass(frozen=True)
-class Checkpoint:
+class Checkpoint(NamedTuple):
     """A name, a place, and the metres around it that count."""
 
     name: str
@@ -33,8 +32,7 @@ class Checkpoint:
     metres: float
 
 
-@dataclass(frozen=True)
-class Visit:
+class Visit(NamedTuple):
     """Once that a thing was within a checkpoint's circle. Moments are milliseconds."""
 
     checkpoint: int
@@ -121,12 +119,12 @@ def is_too_fast(one: Place, other: Place, fastest: float) -> bool:
     return metres_between(one.spot, other.spot) / seconds > fastest / 3.6
 
 
-@dataclass
 class Way:
     """The places of a run that a way leads through, and those that are too far off for any."""
 
-    places: List[Place] = field(default_factory=list)
-    wild: List[Place] = field(default_factory=list)
+    def __init__(self) -> None:
+        self.places: List[Place] = []
+        self.wild: List[Place] = []
 
 
 def way_of(places: Sequence[Place], fastest: float) -> Way:

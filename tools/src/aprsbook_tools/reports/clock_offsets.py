@@ -1,10 +1,11 @@
 """By how much receivers' clocks differ, and where a difference changes, of what both heard."""
 import collections
-import dataclasses
 import heapq
 import itertools
+import operator
 from typing import (
-    Callable, DefaultDict, Dict, Iterable, List, Mapping, Protocol, Sequence, Set, Tuple)
+    Callable, DefaultDict, Dict, Iterable, List, Mapping, NamedTuple, Protocol, Sequence, Set,
+    Tuple)
 
 from aprsbook_tools.formats import moments
 from aprsbook_tools.reports.table import Row
@@ -13,6 +14,7 @@ LEAST = 3  # frames on each side of a step: one of them may be another transmiss
 COPIES = 20_000  # milliseconds: digipeaters repeat a transmission within so many
 # the columns that tell of a reception, and not of the transmission
 RECEPTION = frozenset(["first", "last", "receivers", "receiver", "via"])
+TOLD = operator.itemgetter(*(at for at, it in enumerate(Row._fields) if it not in RECEPTION))
 
 
 def median(values: Iterable[int]) -> float:
@@ -21,8 +23,7 @@ def median(values: Iterable[int]) -> float:
     return statistics.median(values)
 
 
-@dataclasses.dataclass(frozen=True, order=True)
-class Both:
+class Both(NamedTuple):
     """A frame that two receivers heard once each: the moment of each, in milliseconds, and its
     place in the log of each, which grows whatever a clock says."""
     one: int
@@ -35,8 +36,7 @@ class Both:
         return self.one - self.other
 
 
-@dataclasses.dataclass(frozen=True)
-class Span:
+class Span(NamedTuple):
     """Frames of two receivers between two steps, in order, and by how many seconds the first
     receiver's clock is ahead, in the median."""
     one: str
@@ -60,8 +60,8 @@ COLUMNS = ["receiver", "other", "ahead", "frames", "from", "to", "other_from", "
 
 def transmission(row: Row) -> Tuple[object, ...]:
     """What a row tells of its transmission, whoever heard it."""
-    return tuple(getattr(row, it.name) for it in dataclasses.fields(row)
-                 if it.name not in RECEPTION)
+    told: Tuple[object, ...] = TOLD(row)
+    return told
 
 
 def pairs(heard: Mapping[str, Iterable[Row]],

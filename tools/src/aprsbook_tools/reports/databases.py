@@ -1,12 +1,11 @@
 """A database of SQLite with the tables of a book, in which numbers are numbers."""
 import contextlib
-import dataclasses
 import itertools
 import os
 import sqlite3
 from typing import (
-    Any, Callable, Dict, Iterable, Iterator, Mapping, Optional, Sequence, Type,
-    get_type_hints)
+    Any, Callable, Dict, Iterable, Iterator, List, Mapping, NamedTuple, Optional, Sequence, Tuple,
+    Type)
 
 from aprsbook_tools.errors import ExitStatus, Fault
 from aprsbook_tools.reports import table, table_files, tactical
@@ -66,11 +65,8 @@ def sql_type(hint: Any) -> str:
 
 def columns_of(kind: Type[Any]) -> Dict[str, str]:
     """The columns of a kind, each with its type."""
-    hints = get_type_hints(kind)
-    return {
-        table.column_of(it.name): SENT.get(it.name) or sql_type(hints[it.name])
-        for it in dataclasses.fields(kind)
-    }
+    return {table.column_of(name): SENT.get(name) or sql_type(of)
+            for name, of in kind.__annotations__.items()}
 
 
 def converter_of(name: str, read: Callable[[str], Any]) -> table.ConvertColumn:
@@ -88,37 +84,55 @@ def is_null(name: str, read: Callable[[str], Any]) -> bool:
 def literal(values: Sequence[Any]) -> str:
     """SQL of the text that all values are; nothing where they aren't one text."""
     first = values[0]
-    if not isinstance(first, str) or values.count(first) < len(values) or "\0" in first:
+    if not isinstance(first, str) or "\0" in first:
         return ""  # SQL ends at a NUL
+    if first != values[-1] or values.count(first) < len(values):
+        return ""
     return "'" + first.replace("'", "''") + "'"
 
 
-def parts_of(columns: Columns) -> Iterator[Columns]:
-    """The columns in parts that are alike in the first one, the kind of a row: then more of the
-    others are empty. They stay whole where these would be many."""
-    counts = [len([*group]) for _, group in itertools.groupby(columns[0])]
-    begin = 0
-    for count in counts if len(counts) <= FEW else [len(columns[0])]:
-        yield [it[begin:begin + count] for it in columns]
-        begin += count
+def parts_of(kinds: Sequence[str]) -> Iterator[Tuple[int, int]]:
+    """Where parts of rows begin and end that are alike in the first column, the kind of a row: then
+    more of the others are empty. All rows are one where these would be many."""
+    counts = [len([*group]) for _, group in itertools.groupby(kinds)]
+    ends = [*itertools.accumulate(counts)] if len(counts) <= FEW else [len(kinds)]
+    return zip([0, *ends], ends)
+
+
+class Column(NamedTuple):
+    """How a column of what is shown becomes one of a table: what makes its values, and what stands
+    for it in a statement where all are empty."""
+
+    convert: table.ConvertColumn
+    empty: str
+
+
+def columns_put(name: str, count: int) -> List[Column]:
+    """The columns of a table, and so many of names behind them."""
+    own = [Column(converter_of(*it), "null" if is_null(*it) else "''")
+           for it in table.readers_of(TABLES[name]).items()]
+    return own + [Column(converter_of("", str), "''")] * count
 
 
 def insert(base: sqlite3.Connection, name: str, tables: Iterable[Columns], count: int) -> None:
     """Puts columns, of which so many are of names, into a table. Nulls, and what is one text in all
     rows, stand in the statement: to bind costs most, and to bind a null most of all."""
-    readers = table.readers_of(TABLES[name])
-    converters = [converter_of(*it) for it in readers.items()] + [converter_of("", str)] * count
-    nulls = [is_null(*it) for it in readers.items()] + [False] * count
-    for columns in itertools.chain.from_iterable(map(parts_of, tables)):
-        values, bound = [], []
-        for shown, convert, null in zip(columns, converters, nulls):
-            is_empty = not any(shown)
-            converted = [""] if is_empty else convert(shown)
-            alike = "null" if null and is_empty else literal(converted)
-            values.append(alike or ("nullif(?, '')" if null and "" in shown else "?"))
-            bound += [] if alike else [converted]
-        rows: Iterable[Any] = zip(*bound) if bound else [()] * len(columns[0])
-        base.executemany(f"insert into {name} values ({', '.join(values)})", rows)
+    put = columns_put(name, count)
+    for columns in tables:
+        filled = [at for at, shown in enumerate(columns) if not table.is_empty(shown)]
+        for begin, end in parts_of(columns[0]):
+            values, bound = [it.empty for it in put], []
+            for at in filled:
+                shown = columns[at][begin:end]
+                if not table.is_empty(shown):
+                    converted = put[at].convert(shown)
+                    values[at] = literal(converted)
+                    if not values[at]:
+                        may_lack = put[at].empty == "null" and "" in shown
+                        values[at] = "nullif(?, '')" if may_lack else "?"
+                        bound.append(converted)
+            rows: Iterable[Any] = zip(*bound) if bound else [()] * (end - begin)
+            base.executemany(f"insert into {name} values ({', '.join(values)})", rows)
 
 
 def check(path: str, inputs: Sequence[str]) -> str:

@@ -2,22 +2,21 @@
 repeats late."""
 import re
 from collections import Counter, defaultdict
-from dataclasses import dataclass
-from typing import Dict, Iterable, List, Optional, Sequence, Tuple
+from typing import Dict, Iterable, List, NamedTuple, Optional, Sequence, Tuple
 
 from aprsbook_tools.books.receptions import Reception
+from aprsbook_tools.formats.forms import form
 from aprsbook_tools.geo import Spot, bearing, metres_between
 from aprsbook_tools.reports.clock_offsets import median, transmission
 from aprsbook_tools.reports.table import Row
 from aprsbook_tools.reports.tracks import place_of
 
 # what stands for any digipeater, and names none
-ALIAS = re.compile(r"(WIDE|TRACE)[0-9]?(-[0-9]+)?|RELAY|ECHO|GATE", re.ASCII)
+ALIAS = form(r"(WIDE|TRACE)[0-9]?(-[0-9]+)?|RELAY|ECHO|GATE", re.ASCII)
 HOUR = 3_600_000  # milliseconds
 
 
-@dataclass(frozen=True)
-class Heard:
+class Heard(NamedTuple):
     """A station that a receiver heard direct."""
 
     receiver: str
@@ -78,8 +77,7 @@ def repeats_of(rows: Iterable[Tuple[Row, int]]) -> List[Tuple[str, str, int]]:
     return [(*key, max(of.values())) for key, of in sorted(counts.items())]
 
 
-@dataclass(frozen=True)
-class Delayed:
+class Delayed(NamedTuple):
     """A digipeater whose copies a receiver heard late: how many of all, and by how many
     milliseconds in the median."""
 
@@ -130,8 +128,7 @@ def direct_of(receptions: Sequence[Reception]) -> List[Heard]:
     ]
 
 
-@dataclass(frozen=True)
-class Far:
+class Far(NamedTuple):
     """A place that was heard direct, and where it lies from the receiver."""
 
     receiver: str

@@ -4,24 +4,23 @@ The table `stations` has who sent frames itself; who was heard through a gate al
 """
 import argparse
 import collections
-import dataclasses
 import re
-from typing import Counter, DefaultDict, Dict, Iterable, Iterator, List, Optional, Sequence, Tuple
+from typing import (
+    DefaultDict, Dict, Iterable, Iterator, List, NamedTuple, Optional, Sequence, Tuple)
 
 from aprsbook_tools import arguments, progress, table_output
 from aprsbook_tools.books import merged_inputs
 from aprsbook_tools.formats import book_file
+from aprsbook_tools.formats.forms import form
 from aprsbook_tools.reports import receiver_clocks, table
 from aprsbook_tools.reports.table import REST, Columns, Row, Time, text_of
 
 # those that are read
 COLUMNS = ("first", "last", "receivers", "receiver", "source", "destination", "gate", REST)
-CALL = re.compile(r"[A-Za-z0-9]{1,9}(?:-[A-Za-z0-9]{1,2})?", re.ASCII)  # also one of APRS-IS
-NEVER = ("", "")
+CALL = form(r"[A-Za-z0-9]{1,9}(?:-[A-Za-z0-9]{1,2})?", re.ASCII)  # also one of APRS-IS
 
 
-@dataclasses.dataclass(frozen=True)
-class Heard:
+class Heard(NamedTuple):
     """A station: how many transmissions it sent, when and by whom it was heard last, and how many
     frames of others it passed on. `moment` is that of the last one by clocks that are right."""
 
@@ -38,50 +37,68 @@ class Heard:
         return self.moment or self.last, self.receiver, self.call
 
 
-class Counts:
-    """What each list of receivers heard of each station: how many transmissions of its own and of
-    others that it passed on, and when and by whom the last of all was heard."""
+class Entry:
+    """What a list of receivers heard of a station: how many transmissions of its own and of others
+    that it passed on, and when and by whom the last of all was heard."""
+
+    __slots__ = "counts", "last", "receiver"
 
     def __init__(self) -> None:
-        self.sent: Counter[Tuple[str, str]] = collections.Counter()
-        self.passed: Counter[Tuple[str, str]] = collections.Counter()
-        self.last: Dict[Tuple[str, str], Tuple[str, str]] = {}
+        self.counts, self.last, self.receiver = [0, 0], "", ""
+
+
+SENT, PASSED = 0, 1  # places in the counts of an entry
+
+
+class Counts:
+    """The entries of each station, by lists of receivers."""
+
+    def __init__(self) -> None:
+        self.of: DefaultDict[str, DefaultDict[str, Entry]] = collections.defaultdict(
+            lambda: collections.defaultdict(Entry))
 
     def note(self, columns: Columns) -> None:
         """Takes rows. A frame that a gate passed on is its sender's, and the gate was heard too."""
         _, last, receivers, receiver, source, _, gate, _ = columns
-        moments = [*zip(last, receiver)]
-        self.count(self.sent, [*zip(source, receivers)], moments)
-        if any(gate):
-            gated = table.kept([[*zip(gate, receivers)], moments], gate)
-            self.count(self.passed, *gated)
+        self.count(SENT, source, receivers, last, receiver)
+        if not table.is_empty(gate):
+            self.count(PASSED, *table.kept([gate, receivers, last, receiver], gate))
 
-    def count(self, counts: "Counter[Tuple[str, str]]", heard: Sequence[Tuple[str, str]],
-              moments: Sequence[Tuple[str, str]]) -> None:
-        """Counts stations with who heard them, and when and by whom they were heard last."""
-        counts.update(heard)
-        known = self.last.get
-        for key, moment in zip(heard, moments):
-            if moment > known(key, NEVER):
-                self.last[key] = moment
+    def count(self, what: int, calls: Sequence[str], receivers: Sequence[str],
+              last: Sequence[str], receiver: Sequence[str]) -> None:
+        """Counts stations, each with who heard it, and when and by whom it was heard last. Mostly
+        rows are of the station before."""
+        now: Optional[str] = None
+        for call, names, moment, by in zip(calls, receivers, last, receiver):
+            if call != now:
+                now, own = call, self.of[call]
+            entry = own[names]
+            entry.counts[what] += 1
+            if moment >= entry.last and (moment, by) > (entry.last, entry.receiver):
+                entry.last, entry.receiver = moment, by
+
+    def of_lists(self) -> Iterator[Tuple[str, int]]:
+        """The lists of receivers, each with how many transmissions of a station it heard."""
+        return ((names, it.counts[SENT]) for own in self.of.values() for names, it in own.items())
 
     def stations(self, ahead: Dict[str, float]) -> List[Heard]:
         """The stations by callsign, where some receivers' clocks are so wrong."""
-        own: DefaultDict[str, List[Heard]] = collections.defaultdict(list)
-        for (shown, receivers), (last, receiver) in self.last.items():
-            key, moment = (shown, receivers), receiver_clocks.moment_of(last, receivers, ahead)
+        heard: DefaultDict[str, List[Heard]] = collections.defaultdict(list)
+        for shown, own in self.of.items():
             call = text_of(shown)
-            own[call].append(
-                Heard(call, self.sent[key], last, receiver, self.passed[key], moment))
+            for names, it in own.items():
+                moment = receiver_clocks.moment_of(it.last, names, ahead)
+                heard[call].append(
+                    Heard(call, it.counts[SENT], it.last, it.receiver, it.counts[PASSED], moment))
         # within a frame that is passed on may stand anything
-        return [joined(own[call]) for call in sorted(own) if CALL.fullmatch(call)]
+        return [joined(heard[call]) for call in sorted(heard) if CALL.fullmatch(call)]
 
 
 def joined(own: Sequence[Heard]) -> Heard:
     """A station, of what each list of receivers heard of it."""
     last = max(own, key=lambda it: it.order)
-    return dataclasses.replace(last, transmissions=sum(it.transmissions for it in own),
-                               passed=sum(it.passed for it in own))
+    return last._replace(transmissions=sum(it.transmissions for it in own),
+                         passed=sum(it.passed for it in own))
 
 
 def heard_of(tables: Iterable[Columns], gap: int = book_file.GAP) -> List[Heard]:
@@ -90,7 +107,7 @@ def heard_of(tables: Iterable[Columns], gap: int = book_file.GAP) -> List[Heard]
     pairs, counts = receiver_clocks.Pairs(), Counts()
     for columns in pairs.noted(tables, COLUMNS):
         counts.note(columns)
-    for (_, receivers), count in counts.sent.items():
+    for receivers, count in counts.of_lists():
         pairs.together[receivers] += count
     return counts.stations(receiver_clocks.told(pairs.wrong(gap)))
 

@@ -7,12 +7,12 @@ more to go by, since it reads logs.
 import collections
 import itertools
 import operator
-import re
 from typing import (
     Counter, DefaultDict, Dict, Iterable, Iterator, List, NamedTuple, Optional, Sequence, Tuple)
 
 from aprsbook_tools import stderr
 from aprsbook_tools.formats import book_file, moments
+from aprsbook_tools.formats.forms import form
 from aprsbook_tools.reports import clock_offsets, table
 from aprsbook_tools.reports.table import REST, Columns, Row
 
@@ -20,7 +20,7 @@ from aprsbook_tools.reports.table import REST, Columns, Row
 COLUMNS = ("first", "receivers", "source", "destination", "gate", REST)
 MOST = 8  # rows of one text: what is sent more often has no partner that would be sure
 FEWEST = 2  # transmissions that both heard: fewer say nothing of a clock
-RUN = re.compile(b"\1+")  # rows each of which has the text of the one behind it
+RUN = form(b"\1+")  # rows each of which has the text of the one behind it
 
 
 class Pair(NamedTuple):
@@ -31,6 +31,17 @@ class Pair(NamedTuple):
     ahead: float
 
 
+def alike_in(columns: Columns) -> bytes:
+    """Of each row but the last whether all columns are as in the next: 1, or 0. The last column
+    tells the most, and mostly the others are alike in all rows."""
+    *others, last = columns
+    alike = bytes(map(operator.eq, last, last[1:]))
+    for it in others:
+        if b"\1" in alike and it.count(it[0]) < len(it):
+            alike = bytes(map(operator.and_, alike, map(operator.eq, it, it[1:])))
+    return alike
+
+
 class Pairs:
     """What each two receivers heard, of rows in the order of a book. `together`, which whoever
     reads the rows counts, is the rows of each list of receivers."""
@@ -38,35 +49,37 @@ class Pairs:
     def __init__(self) -> None:
         self.apart: DefaultDict[Tuple[str, str], List[int]] = collections.defaultdict(list)
         self.together: Counter[str] = collections.Counter()
-        # the last rows of one text, which may go on: when and by whom each was heard, and its text
-        self.open: List[Tuple[str, str]] = []
-        self.texts: List[Tuple[str, ...]] = []
+        # COLUMNS of the last rows of one text, which may go on
+        self.open: Columns = [()] * len(COLUMNS)
 
     def noted(self, tables: Iterable[Columns], names: Sequence[str]) -> Iterator[Columns]:
         """The columns of rows as they come, which have these names."""
-        first, receivers, *text = map(names.index, COLUMNS)
+        places = [*map(names.index, COLUMNS)]
         for columns in tables:
-            self.note([*zip(columns[first], columns[receivers])],
-                      [*zip(*(columns[at] for at in text))])
+            self.note([columns[at] for at in places])
             yield columns
-        self.compare(self.open)
+        self.compare(*self.open[:2])
 
-    def note(self, heard: List[Tuple[str, str]], texts: List[Tuple[str, ...]]) -> None:
-        """Takes the next rows: when and by whom each was heard, and its text."""
-        heard, texts = self.open + heard, self.texts + texts
-        alike = bytes(map(operator.eq, texts, texts[1:]))
+    def note(self, columns: Columns) -> None:
+        """Takes COLUMNS of the next rows."""
+        columns = [[*before, *it] for before, it in zip(self.open, columns)]
+        first, receivers, *texts = columns
+        alike = alike_in(texts)
         last = alike.rfind(b"\0") + 1
         for run in RUN.finditer(alike, 0, last):
-            self.compare(heard[run.start():run.end() + 1])
-        self.open, self.texts = heard[last:][:MOST + 1], texts[last:][:MOST + 1]
+            own = slice(run.start(), run.end() + 1)
+            self.compare(first[own], receivers[own])
+        self.open = [it[last:last + MOST + 1] for it in columns]
 
-    def compare(self, group: Sequence[Tuple[str, str]]) -> None:
+    def compare(self, first: Sequence[str], receivers: Sequence[str]) -> None:
         """Takes rows of one text: when each was heard first, and by whom."""
-        lists = [receivers.split(",") for _, receivers in group]
-        names = [it for of in lists for it in of]
-        if not 1 < len(group) <= MOST or len({*names}) < len(names):
+        if not 1 < len(first) <= MOST:
             return
-        times = [moments.milliseconds(first) for first, _ in group]
+        lists = [it.split(",") for it in receivers]
+        names = [it for of in lists for it in of]
+        if len({*names}) < len(names):
+            return
+        times = [*map(moments.milliseconds, first)]
         for (at, of), (other_at, others) in itertools.combinations(zip(times, lists), 2):
             for one, other in itertools.product(of, others):
                 key, ahead = ((one, other), at - other_at) if one < other else \

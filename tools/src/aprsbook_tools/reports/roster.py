@@ -7,25 +7,24 @@ bib, as a spreadsheet saves them, perhaps in quotes, within which a line may bre
 head line may name them in another order, and one of `sep=;` the sign between them. Empty lines,
 rows of empty cells and lines that begin with # say nothing, and a byte order mark is passed over.
 """
-import csv
 import enum
 import re
-from dataclasses import dataclass
-from typing import Dict, Iterable, Iterator, List, Optional, Sequence, Tuple, Union
+from typing import Dict, Iterable, Iterator, List, NamedTuple, Optional, Sequence, Tuple, Union
 
 from aprsbook_tools.errors import Fault
 from aprsbook_tools.formats import ax25
+from aprsbook_tools.formats.forms import form
 from aprsbook_tools.system import user_text
 
 ANY = "-*"  # stands for any SSID
 LONGEST = 100_000  # letters of a line
 FEW = 20  # faults that are said
-BEGIN = re.compile(r'\s*(?:"[^"]*"|[^\s,;"]+) *([,;\t])| *([,;])')
-QUOTED = re.compile(r'"(?:[^"]|"")*"')
-PLAIN = re.compile(r'\s*"?([^\s"]+)"?\s*(.*)')
-LINE_END = re.compile(r"\r\n|\n|\r")
-EMPTY = re.compile(r'[\s,;"]*')
-SEPARATOR = re.compile(r"sep=([,;\t])\s*", re.IGNORECASE)
+BEGIN = form(r'\s*(?:"[^"]*"|[^\s,;"]+) *([,;\t])| *([,;])')
+QUOTED = form(r'"(?:[^"]|"")*"')
+PLAIN = form(r'\s*"?([^\s"]+)"?\s*(.*)')
+LINE_END = form(r"\r\n|\n|\r")
+EMPTY = form(r'[\s,;"]*')
+SEPARATOR = form(r"sep=([,;\t])\s*", re.IGNORECASE)
 CELL = 20  # lines at most that a cell in quotes goes over
 # the names of columns in a head line
 HEADS = {
@@ -45,8 +44,7 @@ HEADS = {
 ORDER = ("call", "name", "group", "bib")
 
 
-@dataclass(frozen=True)
-class Expected:
+class Expected(NamedTuple):
     """Who is expected: a call such as Q1RUN-7, or Q1RUN-* for any SSID, and what is said of it."""
 
     call: str
@@ -63,8 +61,7 @@ class Expected:
         return base_of(call) == base_of(self.call) if self.is_any else call == self.call
 
 
-@dataclass(frozen=True)
-class LineFault:
+class LineFault(NamedTuple):
     """A line that isn't understood."""
 
     line: int
@@ -196,6 +193,8 @@ class _Reader:
 
     def read(self, number: int, row: str) -> None:
         """Takes a row: a head, an entry, or what isn't understood."""
+        import csv  # where there is a roster alone
+
         is_first, self.is_first = self.is_first, False
         if len(row) > LONGEST:
             self.refuse(number, f"longer than {LONGEST} letters")
@@ -254,6 +253,8 @@ def fields_of(line: str, own: str) -> List[str]:
 
 def parted(line: str, sign: str) -> List[str]:
     """The fields that a sign parts, some in quotes."""
+    import csv
+
     return [it.strip() for it in next(csv.reader([line], delimiter=sign, skipinitialspace=True))]
 
 

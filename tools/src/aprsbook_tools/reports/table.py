@@ -1,28 +1,29 @@
-"""The table of a book, by column names: a dataclass for each kind. Columns that this doesn't know
-are passed over, and those that an older aprsbook-table lacks are empty."""
+"""The table of a book, by column names: a named tuple for each kind. Columns that this doesn't
+know are passed over, and those that an older aprsbook-table lacks are empty."""
 import collections
-import dataclasses
 import itertools
 import operator
 import re
-import unicodedata
 from typing import (
     Any, Callable, Dict, Iterable, Iterator, List, NamedTuple, Optional, Sequence, Tuple, Type,
     TypeVar, cast)
 
 from aprsbook_tools.errors import Fault
+from aprsbook_tools.formats.forms import form
 from aprsbook_tools.system import programs
 
 T = TypeVar("T")
 Columns = List[Sequence[Any]]  # the values of each column of some rows
 ConvertColumn = Callable[[Sequence[str]], Sequence[Any]]
 Changes = Callable[[str], bool]  # says of the lines of a column whether one has to be written anew
-SHOWN = re.compile(r"((?:\\x[0-9a-f]{2})+)|\\\\")
+SHOWN = form(r"((?:\\x[0-9a-f]{2})+)|\\\\")
 BIDI = frozenset("\u061c\u200e\u200f\u202a\u202b\u202c\u202d\u202e\u2066\u2067\u2068\u2069")
 
 
 def is_readable(character: str) -> bool:
     """Whether a character stands in a text as itself: no control, no end of line, no direction."""
+    import unicodedata  # where a text has something else than ASCII alone
+
     return character not in BIDI and unicodedata.category(character) not in ("Cc", "Cs", "Zl", "Zp")
 
 
@@ -69,91 +70,83 @@ def yes(shown: str) -> Optional[bool]:
     return {"yes": True, "no": False}.get(shown)
 
 
-def column(read: Callable[[str], Any] = text_of, late: bool = False) -> Any:
-    """How a column is read; a late one was added after the first version of the table."""
-    metadata = {"read": read, "late": late}
-    return dataclasses.field(default=read(""), metadata=metadata)
-
-
-@dataclasses.dataclass(frozen=True)
-class Row:
+class Row(NamedTuple):
     """A transmission. Moments are their 24 bytes, which sort as text."""
-    kind: str = column()
-    first: str = column()
-    last: str = column()
-    receivers: Tuple[str, ...] = column(names)
-    receiver: str = column()
-    source: str = column()
-    destination: str = column()
-    via: Tuple[str, ...] = column(names)
-    gate: str = column()
-    name: str = column()
-    state: str = column()
-    id: str = column()
-    latitude: Optional[float] = column(decimal)
-    longitude: Optional[float] = column(decimal)
-    ambiguity: Optional[int] = column(number)
-    compressed: Optional[bool] = column(yes)
-    symbol: str = column()
-    stamp: str = column()
-    course: Optional[int] = column(number)
-    speed_knots: Optional[int] = column(number)
-    altitude_m: Optional[float] = column(decimal)
-    wind_from: Optional[int] = column(number)
-    wind_mph: Optional[int] = column(number)
-    gust_mph: Optional[int] = column(number)
-    temperature_f: Optional[int] = column(number)
-    rain_hour: Optional[int] = column(number)
-    rain_day: Optional[int] = column(number)
-    rain_midnight: Optional[int] = column(number)
-    humidity: Optional[int] = column(number)
-    pressure_tenths: Optional[int] = column(number)
-    luminosity: Optional[int] = column(number)
-    telemetry_sequence: str = column()  # as they were sent: 005 isn't 5, and 1.50 not 1.5
-    a1: str = column()
-    a2: str = column()
-    a3: str = column()
-    a4: str = column()
-    a5: str = column()
-    bits: str = column()
-    says: str = column()
-    text: str = column()
-    messaging: Optional[bool] = column(yes, late=True)
-    fix: str = column(late=True)
-    range_miles: Optional[float] = column(decimal, late=True)
-    phg_watts: Optional[int] = column(number, late=True)
-    phg_height_ft: Optional[int] = column(number, late=True)
-    phg_gain_db: Optional[int] = column(number, late=True)
-    phg_direction: Optional[int] = column(number, late=True)
-    frequency_khz: Optional[int] = column(number, late=True)
-    tone: str = column(late=True)
-    offset_khz: Optional[int] = column(number, late=True)
-    finer_latitude: Optional[float] = column(decimal, late=True)
-    finer_longitude: Optional[float] = column(decimal, late=True)
+    kind: str = ""
+    first: str = ""
+    last: str = ""
+    receivers: Tuple[str, ...] = ()
+    receiver: str = ""
+    source: str = ""
+    destination: str = ""
+    via: Tuple[str, ...] = ()
+    gate: str = ""
+    name: str = ""
+    state: str = ""
+    id: str = ""
+    latitude: Optional[float] = None
+    longitude: Optional[float] = None
+    ambiguity: Optional[int] = None
+    compressed: Optional[bool] = None
+    symbol: str = ""
+    stamp: str = ""
+    course: Optional[int] = None
+    speed_knots: Optional[int] = None
+    altitude_m: Optional[float] = None
+    wind_from: Optional[int] = None
+    wind_mph: Optional[int] = None
+    gust_mph: Optional[int] = None
+    temperature_f: Optional[int] = None
+    rain_hour: Optional[int] = None
+    rain_day: Optional[int] = None
+    rain_midnight: Optional[int] = None
+    humidity: Optional[int] = None
+    pressure_tenths: Optional[int] = None
+    luminosity: Optional[int] = None
+    telemetry_sequence: str = ""  # as they were sent: 005 isn't 5, and 1.50 not 1.5
+    a1: str = ""
+    a2: str = ""
+    a3: str = ""
+    a4: str = ""
+    a5: str = ""
+    bits: str = ""
+    says: str = ""
+    text: str = ""
+    messaging: Optional[bool] = None
+    fix: str = ""
+    range_miles: Optional[float] = None
+    phg_watts: Optional[int] = None
+    phg_height_ft: Optional[int] = None
+    phg_gain_db: Optional[int] = None
+    phg_direction: Optional[int] = None
+    frequency_khz: Optional[int] = None
+    tone: str = ""
+    offset_khz: Optional[int] = None
+    finer_latitude: Optional[float] = None
+    finer_longitude: Optional[float] = None
 
 
 NO_TRAFFIC = frozenset(["query", "telemetry", "answer"])  # classes of messages
 
 
-@dataclasses.dataclass(frozen=True)
-class Message:
+class Message(NamedTuple):
     """A time that a message was sent, with its states, and the answers that decide them."""
-    source: str = column()
-    addressee: str = column()
-    id: str = column()
-    text: str = column()
-    state: str = column()
-    first: str = column()
-    last: str = column()
-    answer: str = column()
-    answer_source: str = column()
-    reply_ack: str = column(late=True)
-    reply_answer: str = column(late=True)
-    gate: str = column(late=True)
-    class_: str = column(late=True)  # the column is called class, a word of Python
-    number: str = column(late=True)
-    outcome: str = column(late=True)
-    outcome_moment: str = column(late=True)
+    source: str = ""
+    addressee: str = ""
+    id: str = ""
+    text: str = ""
+    state: str = ""
+    first: str = ""
+    last: str = ""
+    answer: str = ""
+    answer_source: str = ""
+    reply_ack: str = ""
+    reply_answer: str = ""
+    gate: str = ""
+    class_: str = ""  # the column is called class, a word of Python
+    number: str = ""
+    outcome: str = ""
+    outcome_moment: str = ""
 
     @property
     def final_state(self) -> str:
@@ -171,49 +164,53 @@ class Message:
         return self.class_ not in NO_TRAFFIC
 
 
-@dataclasses.dataclass(frozen=True)
-class Station:
+class Station(NamedTuple):
     """A station with its last position and its last status, and how many frames of others it passed
     on."""
-    source: str = column()
-    transmissions: Optional[int] = column(number)
-    last: str = column()
-    receiver: str = column()
-    stamp: str = column()
-    latitude: Optional[float] = column(decimal)
-    longitude: Optional[float] = column(decimal)
-    ambiguity: Optional[int] = column(number)
-    compressed: Optional[bool] = column(yes)
-    symbol: str = column()
-    text: str = column()
-    status_last: str = column()
-    status_receiver: str = column()
-    status_stamp: str = column()
-    status_text: str = column()
-    heard: str = column(late=True)
-    passed: Optional[int] = column(number, late=True)
+    source: str = ""
+    transmissions: Optional[int] = None
+    last: str = ""
+    receiver: str = ""
+    stamp: str = ""
+    latitude: Optional[float] = None
+    longitude: Optional[float] = None
+    ambiguity: Optional[int] = None
+    compressed: Optional[bool] = None
+    symbol: str = ""
+    text: str = ""
+    status_last: str = ""
+    status_receiver: str = ""
+    status_stamp: str = ""
+    status_text: str = ""
+    heard: str = ""
+    passed: Optional[int] = None
 
 
-@dataclasses.dataclass(frozen=True)
-class Thing:
+class Thing(NamedTuple):
     """An object or an item with its last state."""
-    kind: str = column()
-    name: str = column()
-    state: str = column()
-    last: str = column()
-    receiver: str = column()
-    source: str = column()
-    stamp: str = column()
-    latitude: Optional[float] = column(decimal)
-    longitude: Optional[float] = column(decimal)
-    ambiguity: Optional[int] = column(number)
-    compressed: Optional[bool] = column(yes)
-    symbol: str = column()
-    text: str = column()
+    kind: str = ""
+    name: str = ""
+    state: str = ""
+    last: str = ""
+    receiver: str = ""
+    source: str = ""
+    stamp: str = ""
+    latitude: Optional[float] = None
+    longitude: Optional[float] = None
+    ambiguity: Optional[int] = None
+    compressed: Optional[bool] = None
+    symbol: str = ""
+    text: str = ""
 
 
 WORDS: Dict[Type[Any], str] = {
     Row: "rows", Message: "messages", Station: "stations", Thing: "things"}
+# how a field of a type is read
+READERS: Dict[Any, Callable[[str], Any]] = {
+    str: text_of, Tuple[str, ...]: names, Optional[int]: number, Optional[float]: decimal,
+    Optional[bool]: yes}
+# the first column that was added after the first version of a table
+LATE: Dict[Type[Any], str] = {Row: "messaging", Message: "reply_ack", Station: "heard"}
 # the moments by which a row is of a time: when it was first heard, or what is last known, last
 MOMENTS: Dict[Type[Any], Tuple[str, ...]] = {
     Row: ("first",), Message: ("first",), Station: ("last", "status_last", "heard"),
@@ -230,6 +227,7 @@ ALWAYS = Time()
 BATCH = 200  # lines
 KNOWN = 2_000  # texts of a column whose values are kept
 FIELDS = operator.methodcaller("count", "\t")  # of a line, without the first
+BETWEEN = "\t\n\t"  # two lines: a mark that no line has
 REST = "*"  # in place of a column's name: what stands behind all others that are read
 
 
@@ -239,17 +237,23 @@ def column_of(name: str) -> str:
 
 
 def columns_of(kind: Type[Any]) -> List[str]:
-    return [column_of(it.name) for it in dataclasses.fields(kind)]
+    return [*map(column_of, kind._fields)]
 
 
 def readers_of(kind: Type[Any]) -> Dict[str, Callable[[str], Any]]:
-    """How each column of a kind is read."""
-    return {column_of(it.name): it.metadata["read"] for it in dataclasses.fields(kind)}
+    """How each column of a kind is read, by what the field is."""
+    return {column_of(name): READERS[of] for name, of in kind.__annotations__.items()}
+
+
+def late_of(kind: Type[Any]) -> List[str]:
+    """The columns that an older program lacks."""
+    names = columns_of(kind)
+    return names[names.index(LATE[kind]):] if kind in LATE else []
 
 
 def places_of(kind: Type[Any], names: Sequence[str], head: Sequence[str]) -> List[int]:
     """Where columns stand in a line; one that an older program lacks, behind its end."""
-    late = {column_of(it.name) for it in dataclasses.fields(kind) if it.metadata["late"]}
+    late = late_of(kind)
     for it in names:
         if it not in head and it not in late:
             raise Fault(f"the table of {WORDS[kind]} has no column {it}")
@@ -296,9 +300,11 @@ class Layout:
     def whole(self, lines: Sequence[str], number_: int) -> Callable[[int], Sequence[str]]:
         """The columns of lines, of which the first has this number, by their places."""
         size, count = len(self.head), len(lines)
-        self.check(lines, [*map(FIELDS, lines)], size - 1, number_)
-        fields = "\t".join(lines).split("\t")
-        return lambda at: fields[at::size] if at < size else [""] * count
+        step = size + 1  # a line's fields, and the mark behind them, which is no field's text
+        fields = BETWEEN.join(lines).split("\t")
+        if len(fields) != step * count - 1 or fields[size::step].count("\n") != count - 1:
+            self.check(lines, [*map(FIELDS, lines)], size - 1, number_)
+        return lambda at: fields[at::step] if at < size else [""] * count
 
     def short(self, lines: Sequence[str], number_: int) -> Callable[[int], Sequence[str]]:
         """The same, of which the last one is all that stands behind those that are read."""
@@ -318,6 +324,11 @@ class Layout:
     def is_within(self, moments: Sequence[str]) -> bool:
         """Whether one of a row's moments is of the time."""
         return any(self.time.since <= it < self.time.until for it in moments if it)
+
+
+def is_empty(column: Sequence[Any]) -> bool:
+    """Whether no row has something in a column that is shown: to count finds most as they are."""
+    return not (column and column[0]) and column.count("") == len(column)
 
 
 def kept(columns: Columns, are: Sequence[Any]) -> Columns:
@@ -359,7 +370,7 @@ def converter(read: Callable[[str], Any], empty: Any, changes: Optional[Changes]
     known = Known(read)
 
     def convert(values: Sequence[str]) -> Sequence[Any]:
-        if not any(values):
+        if is_empty(values):
             return [empty] * len(values)
         if changes is not None and not changes("\n".join(values)):
             return values
@@ -382,8 +393,8 @@ def named(make: Any, rows: Iterable[Tuple[Any, ...]]) -> Iterator[Any]:
 
 def read(kind: Type[T], lines: Iterable[str], names: Sequence[str] = (),
          wanted: Wanted = ALL) -> Iterator[T]:
-    """The table's lines as dataclasses of a kind, or as named tuples of some of its columns."""
-    make = cast(Any, collections.namedtuple(kind.__name__, names)) if names else None
+    """The table's lines as a kind, or as named tuples of some of its columns."""
+    make = cast(Any, collections.namedtuple(kind.__name__, names)) if names else kind
     names = names or columns_of(kind)
     own = [converter(it, it(""), is_escaped if it is text_of else None)
            for it in map(readers_of(kind).__getitem__, names)]
@@ -392,7 +403,7 @@ def read(kind: Type[T], lines: Iterable[str], names: Sequence[str] = (),
             values = [convert(it) for convert, it in zip(own, shown)]
         except ValueError as fault:
             raise Fault(f"the table of {WORDS[kind]}: {fault}") from fault
-        yield from named(make, zip(*values)) if make else map(kind, *values)
+        yield from named(make, zip(*values))
 
 
 def lines_of(kind: Type[Any], inputs: Sequence[str], gap: Optional[int] = None,

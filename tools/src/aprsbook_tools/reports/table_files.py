@@ -2,11 +2,11 @@
 columns are empty there, or stand as they are, and what is alike is converted once."""
 import argparse
 import itertools
-import re
 from typing import Any, Callable, Dict, Iterable, Iterator, List, Sequence, Tuple, Type
 
 from aprsbook_tools import arguments, progress, table_output
 from aprsbook_tools.books import merged_inputs
+from aprsbook_tools.formats.forms import form
 from aprsbook_tools.formats.spreadsheet import Cell, cell_text, quoted
 from aprsbook_tools.reports import table, tactical
 from aprsbook_tools.reports.roster import Roster
@@ -14,8 +14,8 @@ from aprsbook_tools.reports.table import Changes, Columns, ConvertColumn, is_esc
 
 Convert = Callable[[Any], Any]
 TEXTS = (table.text_of, table.names, table.yes)  # what reads texts
-SAME = re.compile(r"-?(?:[1-9][0-9]{0,4}\.|0\.(?!000))[0-9]{0,9}[1-9]")
-BEGIN = re.compile(r"\n[^0-9A-Za-z\n]")  # of what begins no word and no number
+SAME = form(r"-?(?:[1-9][0-9]{0,4}\.|0\.(?!000))[0-9]{0,9}[1-9]")
+BEGIN = form(r"\n[^0-9A-Za-z\n]")  # of what begins no word and no number
 
 
 def cell_of(value: Any) -> Cell:
@@ -98,9 +98,9 @@ def without_empty(columns: Sequence[Sequence[str]], between: str) -> List[Sequen
     """The columns, in which those that are empty, one behind another, are one that has what stands
     between them."""
     result: List[Sequence[str]] = []
-    for is_full, group in itertools.groupby(columns, any):
+    for is_empty, group in itertools.groupby(columns, table.is_empty):
         own = [*group]
-        result += own if is_full else [[between * (len(own) - 1)] * len(own[0])]
+        result += [[between * (len(own) - 1)] * len(own[0])] if is_empty else own
     return result
 
 

@@ -1,15 +1,16 @@
 """Places and tracks for other programs: tables, GPX 1.1, GeoJSON (RFC 7946) and KML 2.2. Each is
 written thing by thing; what follows all points waits in a file."""
-import json
+import io
 import re
-import tempfile
 from typing import Any, Callable, Dict, Iterable, Iterator, List, Sequence
 
+from aprsbook_tools.formats.forms import form
 from aprsbook_tools.formats.spreadsheet import Cell
 from aprsbook_tools.geo import Spot, cut_at_date_line
 from aprsbook_tools.reports.roster import Roster
 from aprsbook_tools.reports.table import Station
 from aprsbook_tools.reports.tracks import Place, SortedRow, Thing, place_of
+from aprsbook_tools.system import temporary
 
 HEAD = (
     "kind name state first last receivers source lat lon ambiguity symbol course speed_knots "
@@ -82,7 +83,7 @@ def escape(text: str) -> str:
     return text.replace("&", "&amp;").replace("<", "&lt;").replace(">", "&gt;")
 
 
-NO_XML = re.compile("[^\t\n\r\u0020-\ud7ff\ue000-\ufffd\U00010000-\U0010ffff]")
+NO_XML = form("[^\t\n\r\u0020-\ud7ff\ue000-\ufffd\U00010000-\U0010ffff]")
 
 
 def markup(text: str) -> str:
@@ -99,7 +100,7 @@ def with_tracks(
     things: Iterable[Thing], points: Callable[[Thing], str], track: Callable[[Thing], str]
 ) -> Iterator[str]:
     """The points of all things, and behind them the tracks of those that moved."""
-    with tempfile.TemporaryFile("w+", encoding="utf-8", newline="") as waiting:
+    with io.TextIOWrapper(temporary.file(), "utf-8", newline="") as waiting:
         for it in things:
             yield points(it)
             if it.has_moved:
@@ -185,6 +186,8 @@ def properties_of(place: Place, roster: Roster) -> Dict[str, Any]:
 
 def feature(shape: str, coordinates: Any, properties: Dict[str, Any]) -> str:
     """A feature, on a line of its own, behind the comma of the one before."""
+    import json  # for this format alone
+
     geometry = {"type": shape, "coordinates": coordinates}
     said = {"type": "Feature", "geometry": geometry, "properties": properties}
     return ",\n" + json.dumps(said, ensure_ascii=False, separators=(",", ":"))

@@ -2,7 +2,6 @@
 import collections
 import itertools
 import operator
-from dataclasses import dataclass
 from typing import Any, Callable, Iterable, Iterator, List, NamedTuple, Tuple, cast
 
 from aprsbook_tools.geo import Spot
@@ -49,8 +48,7 @@ class Place(NamedTuple):
         return "c" if self.row.compressed else str(self.row.ambiguity or 0)
 
 
-@dataclass(frozen=True)
-class Thing:
+class Thing(NamedTuple):
     """A station, an object or an item, with its places by the moment when each was first heard."""
 
     kind: str

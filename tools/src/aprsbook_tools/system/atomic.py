@@ -6,22 +6,18 @@ stays a link. Where the bytes are those that the file has, it isn't touched.
 """
 import contextlib
 import errno
-import filecmp
 import os
 import re
-import select
-import shutil
 import stat
-import sys
-import tempfile
 import threading
 import time
 from typing import IO, Iterator, List, Optional, Sequence, Union
 
+from aprsbook_tools import stdout
 from aprsbook_tools.books import inputs
 from aprsbook_tools.errors import ExitStatus, Fault, said
 from aprsbook_tools.formats import log_file
-from aprsbook_tools.system import disk
+from aprsbook_tools.system import disk, packing
 
 try:
     import fcntl
@@ -51,7 +47,7 @@ def check(path: str, given: Sequence[str] = (), is_named: bool = True) -> str:
     real = os.path.realpath(path)
     if os.path.basename(path) in ("", ".", "..") or os.path.islink(real):
         raise Fault(f"'{path}' is no file, and can't become one", ExitStatus.OUTPUT)
-    if os.path.splitext(real)[1] in inputs.PACKED:
+    if os.path.splitext(real)[1] in packing.OPENERS:
         raise Fault(f"{path}: nothing is written compressed", ExitStatus.ARGUMENTS)
     if any(is_of(real, it) for it in given):
         raise Fault(f"{path} is an input, or would become one", ExitStatus.ARGUMENTS)
@@ -105,6 +101,8 @@ def is_log(path: str) -> bool:
 def remove_leftovers(folder: str, name: str = "") -> None:
     """Takes away what runs that were killed have left of a file, or of all of a folder: folders
     that nobody uses at once, and others, and files, after a day."""
+    import shutil
+
     of = re.escape(name) if name else ".+"
     endings = "|".join(map(re.escape, (SUFFIX, disk.WORK)))
     form = re.compile(rf"\.{of}\.[a-z0-9_]{{8}}({endings})", re.DOTALL)
@@ -141,6 +139,9 @@ def is_left(folder: str) -> bool:
 @contextlib.contextmanager
 def work_folder(real: str) -> Iterator[str]:
     """A folder beside a file that goes away; if this run is killed, at the next one."""
+    import shutil
+    import tempfile
+
     folder, name = os.path.split(real)
     remove_leftovers(folder, name)
     work, file = tempfile.mkdtemp(disk.WORK, f".{name}.", folder), -1
@@ -184,6 +185,9 @@ def take_over(file: int, real: str) -> None:
 @contextlib.contextmanager
 def writing(path: str, given: Sequence[str] = (), is_named: bool = True) -> Iterator[Writing]:
     """A file to write into, which becomes that of the path where the block ends without a fault."""
+    import filecmp
+    import tempfile
+
     real = check(path, given, is_named)
     folder, name = os.path.split(real)
     remove_leftovers(folder, name)
@@ -263,29 +267,11 @@ def locked(path: str) -> Iterator[bool]:
         os.close(file)
 
 
-def write_out(octets: bytes) -> None:
-    """Writes bytes to standard output, all of them."""
-    try:
-        if sys.stdout is None:
-            raise OSError(errno.EBADF, "it is closed")
-        sys.stdout.flush()
-        left = memoryview(octets)
-        while left:
-            try:
-                left = left[os.write(1, left):]
-            except BlockingIOError:  # another program set it so
-                select.select([], [1], [])
-    except BrokenPipeError:
-        raise  # nobody reads it any more: the command ends as by SIGPIPE
-    except OSError as fault:
-        raise Fault(f"standard output: {said(fault)}", ExitStatus.OUTPUT) from fault
-
-
 def put(path: Optional[str], output: Union[str, bytes], given: Sequence[str] = ()) -> None:
     """Writes a text, in UTF-8, or bytes into a file; to standard output without one or for `-`."""
     octets = output.encode("utf-8", "surrogateescape") if isinstance(output, str) else output
     if path is None or path == "-":
-        write_out(octets)
+        stdout.write(octets)
     else:
         write(path, octets, given)
 

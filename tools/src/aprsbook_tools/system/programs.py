@@ -1,17 +1,16 @@
 """Runs aprsbook, aprsbook-table and aprsbook-fold. Where one fails, its complaint and its status
 are those of the Fault."""
+import contextlib
 import itertools
 import os
 import re
-import shutil
 import subprocess
-import tempfile
 import threading
 from typing import IO, Iterator, List, Optional, Sequence, Set, Tuple, Union
 
 from aprsbook_tools import stderr
 from aprsbook_tools.errors import ExitStatus, Fault
-from aprsbook_tools.system import disk
+from aprsbook_tools.system import disk, temporary
 
 Given = Union[bytes, IO[bytes], None]  # None: standard input as it is
 RUNNING: Set["subprocess.Popen[bytes]"] = set()  # what threads have started
@@ -20,14 +19,24 @@ BLOCK = 1 << 16  # bytes that are read at a time
 ENDED = threading.Event()  # whether a signal has asked for the end
 
 
+def path_of(program: str) -> Optional[str]:
+    """Where a program stands in the PATH; None where it doesn't."""
+    if os.name == "nt":
+        import shutil  # which knows the endings of programs there
+
+        return shutil.which(program)
+    paths = [os.path.join(folder, program) for folder in os.get_exec_path()]
+    return next((it for it in paths if os.access(it, os.X_OK) and os.path.isfile(it)), None)
+
+
 def is_there(program: str) -> bool:
     """Whether a program is in the PATH."""
-    return shutil.which(program) is not None
+    return path_of(program) is not None
 
 
 def find(program: str) -> str:
     """The path of a program."""
-    path = shutil.which(program)
+    path = path_of(program)
     if path is None:
         raise Fault(f"the program {program} isn't in the PATH: install aprsbook",
                     ExitStatus.MISSING)
@@ -122,6 +131,8 @@ def run(*command: str, given: Given = b"", into: Optional[IO[bytes]] = None) -> 
 def folder_of(file: IO[bytes]) -> str:
     """The folder of a file that is written, or the one for temporary files."""
     if not isinstance(file.name, str):
+        import tempfile  # only where something is wrong
+
         return tempfile.gettempdir()
     folder = os.path.dirname(file.name)
     return os.path.dirname(folder) if folder.endswith(disk.WORK) else folder  # which goes away
@@ -136,10 +147,15 @@ def write_book(into: IO[bytes], *command: str, given: Given = b"") -> None:
         raise Fault("wrote nothing, which no book is", ExitStatus.OUTPUT, program)
 
 
+def blocks_in(file: IO[bytes]) -> Iterator[bytes]:
+    """What is read of a file, so many bytes at a time."""
+    return iter(lambda: file.read(BLOCK), b"")
+
+
 def lines_in(file: IO[bytes]) -> Iterator[List[str]]:
     """The lines of what is read, each without its end, many at once."""
     rest = ""
-    for block in iter(lambda: file.read(BLOCK), b""):
+    for block in blocks_in(file):
         *found, rest = (rest + block.decode("ascii", "backslashreplace")).split("\n")
         yield found
     if rest:
@@ -170,12 +186,14 @@ def blocks(*command: str, given: Given = None) -> Iterator[List[str]]:
     open_many_files()
     path = find(command[0])
     stderr.detail(f"runs {' '.join(command)}")
-    with tempfile.TemporaryFile() as complaint, tempfile.TemporaryFile(buffering=0) as held:
-        stdin: Union[int, IO[bytes], None] = given if not isinstance(given, bytes) else held
+    with contextlib.ExitStack() as files:
+        complaint = files.enter_context(temporary.short())
         if isinstance(given, bytes):
+            held = files.enter_context(temporary.unbuffered())
             hold(held, given)
+            given = held
         process = subprocess.Popen(
-            [path, *command[1:]], stdin=stdin, stdout=subprocess.PIPE, stderr=complaint)
+            [path, *command[1:]], stdin=given, stdout=subprocess.PIPE, stderr=complaint)
         assert process.stdout is not None
         try:
             yield from lines_in(process.stdout)

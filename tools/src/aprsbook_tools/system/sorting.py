@@ -3,8 +3,9 @@ import contextlib
 import heapq
 import itertools
 import marshal
-import tempfile
 from typing import IO, Any, Iterable, Iterator, List, Tuple
+
+from aprsbook_tools.system import temporary
 
 RUN = 20_000  # items that are sorted at once
 BLOCK = 1_000  # items that are read at once of a run
@@ -37,5 +38,5 @@ def in_order(items: Iterable[Tuple[Any, ...]], size: int = RUN) -> Iterator[Tupl
             held = sorted(itertools.islice(items, size))
             if len(held) < size:
                 break
-            runs.append(written(held, stack.enter_context(tempfile.TemporaryFile())))
+            runs.append(written(held, stack.enter_context(temporary.file())))
         yield from heapq.merge(held, *map(items_of, runs)) if runs else held

@@ -3,7 +3,7 @@ import contextlib
 import sys
 from typing import IO, Iterator, Optional, Sequence
 
-from aprsbook_tools import stderr
+from aprsbook_tools import stderr, stdout
 from aprsbook_tools.books import inputs
 from aprsbook_tools.errors import Fault
 from aprsbook_tools.system import atomic
@@ -57,6 +57,6 @@ def put(output: Optional[str], lines: Iterator[bytes], given: Sequence[str],
     for line in lines:
         block += line
         if at_once or len(block) > BLOCK:
-            atomic.write_out(bytes(block))
+            stdout.write(bytes(block))
             block.clear()
-    atomic.write_out(bytes(block))
+    stdout.write(bytes(block))

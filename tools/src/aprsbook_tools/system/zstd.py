@@ -1,15 +1,9 @@
 """Files that zstd packed, read by that program."""
 import io
-import shutil
 import subprocess
 from typing import IO, Any, cast
 
 BLOCK = 1 << 16  # bytes that are read at a time
-
-
-def is_there() -> bool:
-    """Whether the program is there."""
-    return shutil.which("zstd") is not None
 
 
 class Unpacked(io.RawIOBase):
