@@ -1,14 +1,13 @@
 //! How active stations were.
-ghost use Rattle.std.specs.Prelude.{◌≡◌, ◌<◌, ◌≤◌, [], IfOk, OnOk, length};
+ghost use Rattle.std.specs.Prelude.{◌≡◌, ◌<◌, [], IfOk, OnOk};
 ghost use Rattle.std.specs.Option.{option_copied};
 ghost use Rattle.aprs_transmissions.specs.Row.{last_moment};
-ghost use Rattle.aprs_summary.specs.StationRows.{source_of};
 ghost use Rattle.aprs_lists.specs.Activity as Spec;
 
 use aprs_ax25::Callsign;
 use aprs_details::ThirdParty;
 use aprs_log::Moment;
-use aprs_rows::{BookRows, Memory, RowView};
+use aprs_rows::{Memory, RowView};
 use std::alloc::Allocator;
 use std::collections::BTreeMap;
 use std::marker::Model;
@@ -31,7 +30,7 @@ pub(crate) struct Active {
 
 /// How active each station was by the rows that were counted. The station that was counted last is
 /// put into the map where another follows it, since most rows follow one of their own station.
-struct Activities<A: Allocator> {
+pub(crate) struct Activities<A: Allocator> {
     map: BTreeMap<Callsign, Activity, A>,
     last: Option<Active>,
 }
@@ -56,7 +55,7 @@ impl<A: Allocator> Model for Activities<A> {
 
 impl<A: Allocator + Copy> Activities<A> {
     /// No rows were counted yet. Takes no memory.
-    fn new(alloc: A) -> Activities<A>
+    pub(crate) fn new(alloc: A) -> Activities<A>
         ensures { result ≡ [] }
     {
         Activities {
@@ -91,7 +90,7 @@ impl<A: Allocator + Copy> Activities<A> {
     }
 
     /// How active each station was, ascending by callsign.
-    fn into_map(self) -> Result<BTreeMap<Callsign, Activity, A>, Memory>
+    pub(crate) fn into_map(self) -> Result<BTreeMap<Callsign, Activity, A>, Memory>
         ensures { IfOk result (λ map. map.entries ≡ self) }
     {
         let Activities { mut map, last } = self;
@@ -113,39 +112,20 @@ fn put<A: Allocator + Copy>(
     Ok(())
 }
 
-/// How active each station of these rows was, in one pass over them. At most `most` of them may
-/// come, which the contract alone reads: so no number overflows. Takes memory for each station.
-pub(crate) fn activities_of<A: Allocator + Copy>(
-    alloc: A,
-    rows: BookRows<'_, A>,
-    most: usize,
-) -> Result<BTreeMap<Callsign, Activity, A>, Memory>
-    requires { length rows.rows ≤ most }
-    ensures { IfOk result (λ map. Spec.AreActivities rows.entry.rows map.entries) }
-{
-    let mut activities = Activities::new(alloc);
-    for row in rows {
-        count_row(&mut activities, &row)?;
-    }
-    activities.into_map()
-}
-
-/// Adds one more row to what is kept of its station, which has to have passed on fewer than
-/// 2^64 - 1 frames so far.
+/// Adds one more row to what is kept of this station, which sent it, and has to have passed on fewer
+/// than 2^64 - 1 frames so far.
 #[tactic(auto, unfolding(aprs_transmissions::specs::Key::key_of))]
-fn count_row<A: Allocator + Copy>(
+pub(crate) fn count_row<A: Allocator + Copy>(
     activities: &mut Activities<A>,
+    sender: &Callsign,
     row: &RowView<'_>,
 ) -> Result<(), Memory>
-    requires { Spec.passed_kept (Spec.kept_of (source_of row.now) activities.old)
-        < 18446744073709551615 }
-    ensures { OnOk result (activities.new ≡ Spec.with_one_more (source_of row.now)
-        (last_moment row.now) (Spec.passes_on row.now) activities.old) }
+    requires { Spec.passed_kept (Spec.kept_of sender.now activities.old) < 18446744073709551615 }
+    ensures { OnOk result (activities.new ≡ Spec.with_one_more sender.now (last_moment row.now)
+        (Spec.passes_on row.now) activities.old) }
 {
-    let frame = row.frame();
-    let source = frame.source();
-    let passes = ThirdParty::read(frame.info()).is_some();
-    activities.add(&source, row.last(), passes)
+    let passes = ThirdParty::read(row.frame().info()).is_some();
+    activities.add(sender, row.last(), passes)
 }
 
 /// What is kept of a station after one more row that was heard last at this moment.

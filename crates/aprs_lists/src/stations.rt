@@ -1,18 +1,19 @@
 //! The table of a book's stations.
-ghost use Rattle.std.specs.Prelude.{◌≡◌, ◌∷◌, ◌++◌, ℕ, List, [], IfOk, map};
+ghost use Rattle.std.specs.Prelude.{◌≡◌, ◌≤◌, ◌∷◌, ◌++◌, ℕ, List, [], IfOk, length, map};
 ghost use Rattle.std.specs.List.{flat_map};
 ghost use Rattle.std.specs.Option.{option_copied};
 ghost use Rattle.aprs_io.specs.Device.{Sends};
 ghost use Rattle.aprs_io.specs.Outlet.{Puts};
 ghost use Rattle.aprs_transmissions.specs.Gap.{millis_of};
 ghost use Rattle.aprs_summary.specs.Stations.{ReportsStations};
+ghost use Rattle.aprs_summary.specs.SummaryBuilder.{IsBuilderOf};
 ghost use Rattle.aprs_summary.specs.declared.lists.station.Station.{Station};
 ghost use Rattle.aprs_table.specs.Cells.{cell_text};
-ghost use Rattle.aprs_lists.specs.Activity.{heard_kept, passed_kept};
+ghost use Rattle.aprs_lists.specs.Activity.{AreActivities, heard_kept, passed_kept};
 ghost use Rattle.aprs_lists.specs.Stations as Spec;
 ghost use Rattle.aprs_lists.specs.Told.{moment_or_nothing};
 
-use crate::activity::{Activity, activities_of};
+use crate::activity::{Activities, Activity, count_row};
 use crate::line::put_long_line;
 use crate::table::{Lines, write_table};
 use crate::told::moment_cell;
@@ -20,8 +21,8 @@ use aprs_ax25::Callsign;
 use aprs_io::{Counted, Outlet, WriteFault};
 use aprs_log::Moment;
 use aprs_report::Report;
-use aprs_rows::{BookStore, Memory, WalkRoom};
-use aprs_summary::{Heard, HeardRoom, Station, StationWalk, Summary};
+use aprs_rows::{BookRows, BookStore, Memory, WalkRoom};
+use aprs_summary::{Heard, HeardRoom, Sender, Station, StationWalk, Summary, SummaryBuilder};
 use aprs_table::Cell;
 use itoa::Buffer;
 use std::alloc::{Allocator, Global};
@@ -64,8 +65,9 @@ impl<'t, A: Allocator> Model for HeardStations<'t, A> {
 }
 
 impl<'t, A: Allocator + Copy> HeardStations<'t, A> {
-    /// The stations of the book in this store, in two passes over its rows. Takes memory for the
-    /// walks over them and for the book's summary. The room has to last as long as the stations.
+    /// The stations of the book in this store, in one pass over its rows. Takes memory for the walk
+    /// over them, for the book's summary and for each station. The room has to last as long as the
+    /// stations.
     pub fn of(
         alloc: A,
         store: &'t BookStore<A>,
@@ -73,11 +75,13 @@ impl<'t, A: Allocator + Copy> HeardStations<'t, A> {
     ) -> Result<HeardStations<'t, A>, Memory>
         ensures { IfOk result (λ stations. stations ≡ store.now) }
     {
-        let mut first_room = WalkRoom::new(alloc);
-        let rows = store.rows(&mut first_room)?;
+        let rows = store.rows(room)?;
         let most = rows.most_rows();
-        let activities = activities_of(alloc, rows, most)?;
-        let summary = Summary::of(alloc, store, room)?;
+        let Gathered {
+            builder,
+            activities,
+        } = gather(alloc, rows, most)?;
+        let summary = builder.into_summary(store)?;
         Ok(HeardStations {
             summary,
             activities,
@@ -95,6 +99,41 @@ impl<'t, A: Allocator + Copy> HeardStations<'t, A> {
             activities: &self.activities,
         }
     }
+}
+
+/// What was gathered of the rows of a book, and how active each station was by them.
+#[derive(Drop)]
+struct Gathered<'t, A: Allocator = Global> {
+    builder: SummaryBuilder<'t, A>,
+    activities: BTreeMap<Callsign, Activity, A>,
+}
+
+/// What these rows say, and how active each of their stations was, in one pass over them. At most
+/// `most` of them may come, which the contracts alone read: so no number overflows.
+fn gather<'t, A: Allocator + Copy>(
+    alloc: A,
+    rows: BookRows<'t, A>,
+    most: usize,
+) -> Result<Gathered<'t, A>, Memory>
+    requires { length rows.rows ≤ most }
+    ensures said { IfOk result (λ gathered. IsBuilderOf rows.entry.rows gathered.builder) }
+    ensures active { IfOk result (λ gathered.
+        AreActivities rows.entry.rows gathered.activities.entries) }
+{
+    let mut builder = SummaryBuilder::new(alloc);
+    let mut activities = Activities::new(alloc);
+    let mut before = None;
+    for row in rows {
+        let sender = Sender::after(before, &row.greatest());
+        builder.take(sender.call(), &row)?;
+        count_row(&mut activities, sender.call(), &row)?;
+        before = Some(sender);
+    }
+    let activities = activities.into_map()?;
+    Ok(Gathered {
+        builder,
+        activities,
+    })
 }
 
 /// Writes the table of the stations of a book: the names of the columns, and exactly one line for

@@ -5,6 +5,7 @@ pub mod Common
 mod Inserts
 mod Addressed
 pub mod Stations
+pub mod TakenRows
 pub mod Collected
 pub mod Messages
 pub mod SpelledCalls

@@ -23,4 +23,5 @@ pub use lists::sender::Sender;
 pub use lists::station::{Station, stations_of};
 pub use lists::station_walk::StationWalk;
 pub use lists::summary::Summary;
+pub use lists::summary_builder::SummaryBuilder;
 pub use lists::tally::Counting;

@@ -11,7 +11,7 @@ use crate::lists::exchange::Exchange;
 use crate::lists::message_walk::MessageWalk;
 use crate::lists::named_walk::NamedWalk;
 use crate::lists::station_walk::StationWalk;
-use crate::lists::summary_builder::{SummaryBuilder, summarize};
+use crate::lists::summary_builder::summarize;
 use aprs_ax25::Callsign;
 use aprs_log::ReceptionRef;
 use aprs_rows::{BookStore, Memory, WalkRoom};
@@ -21,10 +21,10 @@ use std::marker::Model;
 
 /// What the rows of the book in a store say. Their frames stay where they lie.
 pub struct Summary<'t, A: Allocator = Global> {
-    store: &'t BookStore<A>,
-    indexes: Indexes<ReceptionRef<'t>, A>,
-    tallies: BTreeMap<Callsign, u64, A>,
-    exchange: Exchange<'t, A>,
+    pub(crate) store: &'t BookStore<A>,
+    pub(crate) indexes: Indexes<ReceptionRef<'t>, A>,
+    pub(crate) tallies: BTreeMap<Callsign, u64, A>,
+    pub(crate) exchange: Exchange<'t, A>,
 }
 
 impl<'t, A: Allocator> Drop for Summary<'t, A> {
@@ -68,19 +68,8 @@ impl<'t, A: Allocator + Copy> Summary<'t, A> {
     {
         let rows = store.rows(room)?;
         let most = rows.most_rows();
-        let SummaryBuilder {
-            notes,
-            tallies,
-            exchange,
-        } = summarize(alloc, rows, most)?;
-        let indexes = notes.into_indexes()?;
-        let tallies = tallies.into_map()?;
-        Ok(Summary {
-            store,
-            indexes,
-            tallies,
-            exchange,
-        })
+        let builder = summarize(alloc, rows, most)?;
+        builder.into_summary(store)
     }
 
     /// The stations that were heard, ascending by callsign. Takes no memory, nor does the walk.
