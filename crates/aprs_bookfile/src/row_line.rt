@@ -15,9 +15,6 @@ use aprs_ax25::{Frame, FrameRef, MAX_UI_FRAME};
 use aprs_log::{Clock, Moment, MomentForm, Receiver, ReceptionRef};
 use aprs_rows::RowView;
 
-/// Where the last digit of its seconds stands in the text of a moment.
-const LAST_OF_SECONDS: usize = 18;
-
 /// The row that a line spells, with its moments in this form. Fails with `RowSyntax` where the line
 /// spells no row, and with `Frame` where it spells one but for its frame, whose bytes aren't a UI
 /// frame. The frame is read into `buffers`, of which the row borrows it. `known` has names of
@@ -84,8 +81,7 @@ fn cut_moment<'l>(clock: &mut Clock, form: MomentForm, text: &'l [u8]) -> Option
 
 /// The last moment of a row, with which `text` begins, and what follows the space after it, or
 /// `None` where the text doesn't begin so. `before` is the first moment's text, a space and `text`.
-/// Where the last moment has the same text as the first, it isn't read again. Most others differ from
-/// the first in the last digit of their seconds, which is looked at before the rest.
+/// Where the last moment has the same text as the first, it isn't read again.
 fn cut_last<'l>(
     clock: &mut Clock,
     form: MomentForm,
@@ -100,9 +96,6 @@ fn cut_last<'l>(
     ensures none { IfNone result ((m : ℕ) (rest : List ℕ) → IsWritable form m
         → text.now ≢ moment_text_in form m ++ 32 ∷ rest) }
 {
-    if text.len() > LAST_OF_SECONDS && before[LAST_OF_SECONDS] != text[LAST_OF_SECONDS] {
-        return cut_moment(clock, form, text);
-    }
     match cut_known(&before[..size_in(form)], text) {
         Some((_, rest)) => Some((first, rest)),
         None => cut_moment(clock, form, text),

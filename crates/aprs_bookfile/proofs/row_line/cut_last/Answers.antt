@@ -1,21 +1,7 @@
-use Rattle.aprs_bookfile.proofs.Common.{◌<◌, ◌∙◌, ◌++◌, ◌∷◌, take, ap, sym, arith, MomentForm, Millis, Seconds}
+use Rattle.aprs_bookfile.proofs.Common.{◌∙◌, ◌++◌, ◌∷◌, take, ap, sym, arith}
 use Rattle.std.proofs.lemmas.List.{length-take-le}
-use Rattle.aprs_log.specs.Clock.{form_size}
 use Rattle.aprs_bookfile.proofs.RowReading.{has_moment}
 use Rattle.aprs_bookfile.proofs.row_line.cut_last.Goals as goal
-
--- the last digit of the seconds
-seconds_within : (form : MomentForm) → 18 < form_size form
-seconds_within Seconds = omega arith
-seconds_within Millis = omega arith
-
-pub bounds-before-18 : goal.bounds-before-18
-bounds-before-18 c =
-    let has = has_moment c.args.form c.args.first c.args.text.now c.args.before.now
-    c.requires.before in
-    let long = has.long in
-    let seconds = seconds_within c.args.form in
-    omega (arith, long, seconds)
 
 pub slice_bounds-cut_known-end : goal.slice_bounds-cut_known-end
 slice_bounds-cut_known-end c =
