@@ -111,6 +111,11 @@ def joined(parser: argparse.ArgumentParser, words: Sequence[str]) -> List[str]:
     return result
 
 
+def may_ask_for_help(word: str) -> bool:
+    """Whether a word may be `--help`, or letters of options with `-h` among them."""
+    return word == "--help" or (word[:1] == "-" and word[1:2] != "-" and "h" in word)
+
+
 def parse(parser: Parser, words: Sequence[str]) -> argparse.Namespace:
     """Reads a command's arguments; options may stand among and behind the others."""
     words = joined(parser, no_options(words))
@@ -119,6 +124,8 @@ def parse(parser: Parser, words: Sequence[str]) -> argparse.Namespace:
         name = word.partition("=")[0]
         if name.startswith("--") and len(name) > 2 and name not in names:
             parser.error(f"no option is called {name}{meant(name, names)}")
+    if not any(map(may_ask_for_help, words)):
+        parser.usage = ""  # which is made otherwise, and is said in help alone
     args, rest = parser.parse_known_intermixed_args(words)
     for word in rest:
         parser.error(f"no option is called {word}" if word.startswith("-") else

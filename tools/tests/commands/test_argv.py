@@ -119,6 +119,13 @@ def test_help_of_each_command(programs: Programs, monkeypatch: pytest.MonkeyPatc
     assert max(map(len, programs.run("help").splitlines())) <= 80
 
 
+@pytest.mark.parametrize("words", [["-qh"], ["--from", "-2h", "-h"], ["net.log", "--help"]])
+def test_help_has_the_usage_however_it_is_asked_for(programs: Programs, words: "list[str]"
+                                                    ) -> None:
+    shown = programs.run("tracks", *words)
+    assert shown == programs.run("help", "tracks") and "[INPUT ...]" in shown
+
+
 def commands_in(example: str) -> List[List[str]]:
     """The words of each aprs-net of an example, to a | or another sign of the shell."""
     found: List[List[str]] = []
@@ -176,6 +183,20 @@ def test_no_command_is_imported_for_help(words: "list[str]") -> None:
               "it != 'tempfile') or 0)")
     subprocess.run([sys.executable, "-c", script, *words], env=environment(), check=True,
                    stdout=subprocess.DEVNULL)
+
+
+# what takes longer to import than a small report takes
+LARGE = ("bz2 csv concurrent.futures dataclasses datetime inspect json logging lzma random shutil "
+         "tempfile textwrap").split()
+
+
+def test_a_report_imports_nothing_large(programs: Programs) -> None:
+    programs.say(place("18:00", "Q1A", 1, 2), place("18:01", "Q1A", 1, 2))
+    script = ("import sys; from aprsbook_tools import cli; cli.main(sys.argv[1:]); "
+              f"sys.exit(' '.join(it for it in {LARGE!r} if it in sys.modules) or 0)")
+    for name in "last-heard", "stations", "messages":
+        subprocess.run([sys.executable, "-S", "-c", script, name, "net.log"], check=True,
+                       env=environment(), stdout=subprocess.DEVNULL)
 
 
 @pytest.mark.parametrize("name", commands.NAMES)

@@ -13,7 +13,7 @@ from typing import (
 from aprsbook_tools import stderr
 from aprsbook_tools.formats import book_file, moments
 from aprsbook_tools.formats.forms import form
-from aprsbook_tools.reports import clock_offsets, table
+from aprsbook_tools.reports import table
 from aprsbook_tools.reports.table import REST, Columns, Row
 
 # what is read of each row: when and by whom it was heard, and its text, but for its digipeaters
@@ -105,6 +105,10 @@ class Pairs:
         """The receivers whose clocks are wrong, each with the seconds by which its own is ahead of
         those that agree; none where no more agree than in another group."""
         found = self.found()
+        if all(abs(it.ahead) <= gap for it in found):
+            return {}  # those whose clocks don't agree aren't apart
+        from aprsbook_tools.reports import clock_offsets  # most nets need none
+
         right = clock_offsets.most_agreeing(found, gap)
         ahead: DefaultDict[str, List[float]] = collections.defaultdict(list)
         for it in found:
