@@ -1,7 +1,7 @@
 //! What a program's help says, beside the arguments that it takes.
 
 /// The version of the programs.
-pub const VERSION: &str = "0.2.1";
+pub const VERSION: &str = "0.3.0";
 
 /// What the program is for.
 pub const ABOUT: &str = "Reads, checks, converts, merges and lists the logs of APRS receivers";

@@ -207,7 +207,7 @@ const HELP: &[(&[&str], &[&str])] = &[
         &["aprsbook", "widen", "--help"],
         &["Usage: aprsbook widen <SECONDS> [INPUT]"],
     ),
-    (&["aprsbook", "--version"], &["aprsbook 0.2.1"]),
+    (&["aprsbook", "--version"], &["aprsbook 0.3.0"]),
 ];
 
 // Help and the version go to standard output.
