@@ -108,10 +108,57 @@ placed k q es es' none e =
     ∙ sym (ap entry_known (ap (λ b. entry_at b es) (sym (same_of k q t)) ∙ none)))
     (λ t. ap entry_known (e ∙ ap (λ b. cond b (Some None) (entry_at q es)) t))
 
-pub placed_there : (k : List ℕ) (es es' : Entries)
-    → entry_at k es' ≡ cond (is_eq (bytes_cmp k k)) (Some None) (entry_at k es) → HasEntry k es'
-placed_there k es es' e =
-    ap is_some (e ∙ ap (λ b. cond b (Some None) (entry_at k es)) (same_as_itself k))
+pub placed_there : (k : List ℕ) (es es' : Entries) (o : Option Received)
+    → entry_at k es' ≡ cond (is_eq (bytes_cmp k k)) (Some o) (entry_at k es) → HasEntry k es'
+placed_there k es es' o e =
+    ap is_some (e ∙ ap (λ b. cond b (Some o) (entry_at k es)) (same_as_itself k))
+
+pub unwrapped : {X : Type 0} (a b : X) → Some a ≡ Some b → a ≡ b
+unwrapped a b h = cc
+
+-- what was put is known
+pub known_put : (k q : List ℕ) (es es' : Entries) (v : Received)
+    → entry_at q es' ≡ cond (is_eq (bytes_cmp k q)) (Some (Some v)) (entry_at q es)
+    → known_at q es' ≡ cond (is_eq (bytes_cmp k q)) (Some v) (known_at q es)
+known_put k q es es' v e =
+    by_test (is_eq (bytes_cmp k q))
+    (λ t.
+    ap entry_known (e ∙ ap (λ b. cond b (Some (Some v)) (entry_at q es)) t)
+    ∙ ap (λ b. cond b (Some v) (known_at q es)) (sym t))
+    (λ t.
+    ap entry_known (e ∙ ap (λ b. cond b (Some (Some v)) (entry_at q es)) t)
+    ∙ ap (λ b. cond b (Some v) (known_at q es)) (sym t))
+
+-- the greater of what was known and x is what was put
+pub greater_put : (k q : List ℕ) (es es' : Entries) (v x : Received)
+    → known_at q es' ≡ cond (is_eq (bytes_cmp k q)) (Some v) (known_at q es)
+    → v ≡ greater_known (known_at k es) x
+    → known_at q es' ≡ cond (is_eq (bytes_cmp k q)) (Some (greater_known (known_at q es) x))
+    (known_at q es)
+greater_put k q es es' v x e made =
+    by_test (is_eq (bytes_cmp k q))
+    (λ t.
+    e
+    ∙ ap (λ w. cond (is_eq (bytes_cmp k q)) (Some w) (known_at q es))
+    (made ∙ ap (λ b. greater_known (known_at b es) x) (same_of k q t)))
+    (λ t.
+    e ∙ ap (λ b. cond b (Some v) (known_at q es)) t
+    ∙ ap (λ b. cond b (Some (greater_known (known_at q es) x)) (known_at q es)) (sym t))
+
+-- what is put twice is what was put last
+pub put_twice : (k q : List ℕ) (es es' es'' : Entries) (v w : Received)
+    → known_at q es' ≡ cond (is_eq (bytes_cmp k q)) (Some v) (known_at q es)
+    → known_at q es'' ≡ cond (is_eq (bytes_cmp k q)) (Some w) (known_at q es')
+    → known_at q es'' ≡ cond (is_eq (bytes_cmp k q)) (Some w) (known_at q es)
+put_twice k q es es' es'' v w e f =
+    by_test (is_eq (bytes_cmp k q))
+    (λ t.
+    f ∙ ap (λ b. cond b (Some w) (known_at q es')) t
+    ∙ ap (λ b. cond b (Some w) (known_at q es)) (sym t))
+    (λ t.
+    f ∙ ap (λ b. cond b (Some w) (known_at q es')) t
+    ∙ e ∙ ap (λ b. cond b (Some v) (known_at q es)) t
+    ∙ ap (λ b. cond b (Some w) (known_at q es)) (sym t))
 
 pub noted : (k q : List ℕ) (es es' : Entries) (known new : Option Received) (x : Received)
     → Some known ≡ entry_at k es → entry_at q es' ≡ cond (is_eq (bytes_cmp k q)) (Some new)
@@ -126,23 +173,6 @@ noted k q es es' known new x some e made =
     ∙ made
     ∙ ap (λ o. Some (greater_known (entry_known o) x))
     (some ∙ ap (λ b. entry_at b es) (same_of k q t))
-    ∙ ap (λ b. cond b (Some (greater_known (known_at q es) x)) (known_at q es)) (sym t))
-    (λ t.
-    ap entry_known (e ∙ ap (λ b. cond b (Some new) (entry_at q es)) t)
-    ∙ ap (λ b. cond b (Some (greater_known (known_at q es) x)) (known_at q es)) (sym t))
-
-pub first_noted : (k q : List ℕ) (es es' : Entries) (new : Option Received) (x : Received)
-    → entry_at k es ≡ None
-    → entry_at q es' ≡ cond (is_eq (bytes_cmp k q)) (Some new) (entry_at q es) → new ≡ Some x
-    → known_at q es' ≡ cond (is_eq (bytes_cmp k q)) (Some (greater_known (known_at q es) x))
-    (known_at q es)
-first_noted k q es es' new x none e made =
-    by_test (is_eq (bytes_cmp k q))
-    (λ t.
-    ap entry_known (e ∙ ap (λ b. cond b (Some new) (entry_at q es)) t)
-    ∙ made
-    ∙ ap (λ o. Some (greater_known (entry_known o) x))
-    (sym none ∙ ap (λ b. entry_at b es) (same_of k q t))
     ∙ ap (λ b. cond b (Some (greater_known (known_at q es) x)) (known_at q es)) (sym t))
     (λ t.
     ap entry_known (e ∙ ap (λ b. cond b (Some new) (entry_at q es)) t)
@@ -211,17 +241,48 @@ module _ {K X : Type 0} (bytes : K → List ℕ) (received : X → Received) (k 
 
     pub placed_made : HasEntry k (plain_entries bytes received es')
     placed_made =
-        placed_there k now (plain_entries bytes received es') (inserted_at es' key None own put k)
+        placed_there k now (plain_entries bytes received es') None
+        (inserted_at es' key None own put k)
 
-  pub first_at : (es' : List (K × Option X)) (key : K) (new : X) (x : Received) → bytes key ≡ k
-      → es' ≡ insert_entry (λ a b. bytes_cmp (bytes a) (bytes b)) es key (Some new)
-      → received new ≡ x → None ≡ got bytes k es → (q : List ℕ)
-      → known_at q (plain_entries bytes received es') ≡ cond (is_eq (bytes_cmp k q))
+  module _ (es' : List (K × Option X)) (key : K) (own : bytes key ≡ k) (new : X)
+      (put : es' ≡ insert_entry (λ a b. bytes_cmp (bytes a) (bytes b)) es key (Some new)) where
+    pub put_there : HasEntry k (plain_entries bytes received es')
+    put_there =
+        placed_there k now (plain_entries bytes received es') (Some (received new))
+        (inserted_at es' key (Some new) own put k)
+
+    pub put_known : (x : Received) → received new ≡ x → (q : List ℕ)
+        → known_at q (plain_entries bytes received es')
+        ≡ cond (is_eq (bytes_cmp k q)) (Some x) (known_at q now)
+    put_known x made q =
+        known_put k q now (plain_entries bytes received es') x
+        (inserted_at es' key (Some new) own put q
+        ∙ ap (λ v. cond (is_eq (bytes_cmp k q)) (Some (Some v)) (entry_at q now)) made)
+
+  -- of what an entry had and x the greater is what is known there now
+  pub taken_at : (key : K) → bytes key ≡ k → (old : Option (Option X)) → old ≡ got bytes (bytes key) es
+      → (v x : Received) → v ≡ greater_known (option_map received (entry_known old)) x
+      → (es'' : Entries)
+      → ((q : List ℕ) → known_at q es'' ≡ cond (is_eq (bytes_cmp k q)) (Some v) (known_at q now))
+      → (q : List ℕ) → known_at q es'' ≡ cond (is_eq (bytes_cmp k q))
       (Some (greater_known (known_at q now) x)) (known_at q now)
-  first_at es' key new x own put made none q =
-      first_noted k q now (plain_entries bytes received es') (Some (received new)) x
-      (sym (ap (option_map (option_map received)) none ∙ entry_of))
-      (inserted_at es' key (Some new) own put q) (ap Some made)
+  taken_at key own old had v x made es'' known q =
+      greater_put k q now es'' v x (known q)
+      (made
+      ∙ ap (λ o. greater_known o x) (known_got old (had ∙ ap (λ b. got bytes b es) own)))
+
+  pub set_at : (es' : List (K × Option X)) (old : Option X) (new : X) (q : List ℕ)
+      → Some old ≡ got bytes k es → es' ≡ set_value (at bytes k) es (Some new)
+      → known_at q (plain_entries bytes received es')
+      ≡ cond (is_eq (bytes_cmp k q)) (Some (received new)) (known_at q now)
+  set_at es' old new q found put =
+      known_put k q now (plain_entries bytes received es') (received new)
+      (sym (plain_got bytes received q es')
+      ∙ ap (λ l. option_map (option_map received) (got bytes q l)) put
+      ∙ ap (option_map (option_map received)) (got_set bytes k q es old (Some new) found)
+      ∙ cond_alike (option_map received) (is_eq (bytes_cmp k q)) (Some new) (got bytes q es)
+      ∙ ap (λ o. cond (is_eq (bytes_cmp k q)) (Some (Some (received new))) o)
+      (plain_got bytes received q es ∙ ap (entry_at q) view))
 
   pub noted_at : (es' : List (K × Option X)) (known new : Option X) (x : Received) (q : List ℕ)
       → Some known ≡ got bytes k es → es' ≡ set_value (at bytes k) es new

@@ -108,18 +108,32 @@ module _ (rows : List Row) (es : List (Call × ℕ)) (c : AreTallies rows es) wh
 module _ (es : List (Call × ℕ)) (call : Call) (t : Tally) (last : Option Tally)
     (now : List (Call × ℕ)) (is : with_last last es ≡ now) (some : last ≡ Some t)
     (own : t.station ≡ call) where
-  entries_now : now ≡ insert_entry call_cmp es call t.rows
+  entries_now : now ≡ insert_entry call_cmp es call (tally_of call es + t.rows)
   entries_now = sym is ∙ (λ i. with_last (some i) es)
-      ∙ ap (λ c. insert_entry call_cmp es c t.rows) own
+      ∙ ap (λ c. insert_entry call_cmp es c (tally_of c es + t.rows)) own
 
-  pub tally_of_last : tally_of call now ≡ t.rows
+  pub tally_of_last : tally_of call now ≡ tally_of call es + t.rows
   tally_of_last = ap (tally_of call) entries_now
-      ∙ ap count_in (inserted_found call_cmp call_total call t.rows es)
+      ∙ ap count_in (inserted_found call_cmp call_total call (tally_of call es + t.rows) es)
 
-  pub one_more_of_last : insert_entry call_cmp es call (t.rows + 1) ≡ with_one_more call now
+  pub one_more_of_last : insert_entry call_cmp es call (tally_of call es + (t.rows + 1))
+      ≡ with_one_more call now
   one_more_of_last =
-      sym (inserted_twice call_cmp call_total call t.rows (t.rows + 1) es)
+      let grown : tally_of call es + (t.rows + 1) ≡ tally_of call es + t.rows + 1 = omega arith in
+      ap (insert_entry call_cmp es call) grown
+      ∙ sym (inserted_twice call_cmp call_total call (tally_of call es + t.rows)
+      (tally_of call es + t.rows + 1) es)
       ∙ sym (λ i. insert_entry call_cmp (entries_now i) call (tally_of_last i + 1))
+
+-- the rows of a station that was counted before, put after their number was
+pub put_again : (es put new : List (Call × ℕ)) (call again : Call) (before rows : ℕ)
+    → again ≡ call → Some before ≡ lookup (is_at (call_cmp call)) es
+    → put ≡ insert_entry call_cmp es call rows → new ≡ insert_entry call_cmp put again (before + rows)
+    → new ≡ insert_entry call_cmp es call (tally_of call es + rows)
+put_again es put new call again before rows same known e f =
+    f ∙ (λ i. insert_entry call_cmp (e i) (same i) (before + rows))
+    ∙ inserted_twice call_cmp call_total call rows (before + rows) es
+    ∙ ap (λ o. insert_entry call_cmp es call (count_in o + rows)) known
 
 -- nothing is in order
 pub no_keys : (es : List (Call × ℕ)) → es ≡ [] → IsStrictlySortedBy call_cmp (keys_of es)

@@ -1,5 +1,5 @@
 -- The rows of each station.
-use Rattle.std.specs.Prelude.{◌≡◌, ◌+◌, ℕ, List, Option, None, Some}
+use Rattle.std.specs.Prelude.{◌≡◌, ◌+◌, ◌<◌, ⊤, ℕ, List, Option, None, Some}
 use Rattle.std.specs.Map.{lookup}
 use Rattle.std.specs.BTreeMap.{is_at, insert_entry}
 use Rattle.std.specs.List.{count_by}
@@ -52,10 +52,15 @@ tally_of call es = count_in (lookup (is_at (call_cmp call)) es)
 abbrev pub with_one_more : Call → List (Call × ℕ) → List (Call × ℕ)
 with_one_more call es = insert_entry call_cmp es call (tally_of call es + 1)
 
--- The entries, with that of the station that was counted last, if there is one.
+-- The entries, with the rows of the station that was counted last, if there is one.
 abbrev pub with_last : Option Tally → List (Call × ℕ) → List (Call × ℕ)
 with_last None es = es
-with_last (Some t) es = insert_entry call_cmp es t.station t.rows
+with_last (Some t) es = insert_entry call_cmp es t.station (tally_of t.station es + t.rows)
+
+-- With the rows of the station that was counted last, if there is one, its number is below 2^64.
+abbrev pub LastFits : Option Tally → List (Call × ℕ) → Type 0
+LastFits None es = ⊤
+LastFits (Some t) es = tally_of t.station es + t.rows < 18446744073709551616
 
 -- The one's callsign is below the other's.
 abbrev pub IsStationBefore : Call × ℕ → Call × ℕ → Type 0

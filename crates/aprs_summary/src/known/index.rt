@@ -81,7 +81,8 @@ impl<X: Kept, A: Allocator + Copy> Index<X, A> {
 
     /// Keeps the reception in the entry at these bytes, if nothing, or a lesser reception, is
     /// known there. The entry is made where there is none. What is known at other bytes stays.
-    /// After `Memory` the same is known as before.
+    /// After `Memory` the same is known as before. The reception is put first, and what was known
+    /// is put back where it is greater: most entries are new, and then one search is enough.
     pub(crate) fn take<'t>(&mut self, bytes: &[u8], x: &ReceptionRef<'t>) -> Result<(), Memory>
     where
         X: KeptFrom<'t>,
@@ -91,13 +92,28 @@ impl<X: Kept, A: Allocator + Copy> Index<X, A> {
         ensures same { OnErr result
             ((q : List ℕ) → Spec.known_at q self.new ≡ Spec.known_at q self.old) }
     {
-        if let Some(known) = self.map.get_mut(bytes) {
-            keep(known, x);
-            return Ok(());
-        }
         let key = Vec::from_slice(self.alloc, bytes)?;
-        self.map.insert(key, Some(X::kept_from(x)))?;
+        let known = match self.map.insert(key, Some(X::kept_from(x)))? {
+            Some(Some(known)) => known,
+            Some(None) => return Ok(()),
+            None => return Ok(()),
+        };
+        if !exceeds(x, Some(&known.lent())) {
+            self.put_back(bytes, known);
+        }
         Ok(())
+    }
+
+    /// Keeps this in the entry at these bytes, which has to be there, in the place of what it has.
+    /// What is known at other bytes stays. Takes no memory.
+    fn put_back(&mut self, bytes: &[u8], known: X)
+        requires { Spec.HasEntry bytes.now self.old }
+        ensures { (q : List ℕ) → Spec.known_at q self.new ≡ cond (is_eq (bytes_cmp bytes.now q))
+            (Some (X.received known)) (Spec.known_at q self.old) }
+    {
+        if let Some(place) = self.map.get_mut(bytes) {
+            put_in(place, known);
+        }
     }
 
     /// The reception that is known at these bytes, or `None`. Takes no memory.
@@ -119,6 +135,13 @@ impl<X: Kept, A: Allocator + Copy> Index<X, A> {
     {
         self.map.iter()
     }
+}
+
+/// Puts a reception in the place of what was kept there.
+fn put_in<X: Kept>(place: &mut Option<X>, known: X)
+    ensures { place.new ≡ Some known }
+{
+    *place = Some(known);
 }
 
 /// Puts `x` into `known`, unless a reception is there that is as great or greater.

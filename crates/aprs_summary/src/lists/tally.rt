@@ -1,6 +1,5 @@
 //! How many rows each station has.
-ghost use Rattle.std.specs.Prelude.{◌≡◌, ◌+◌, ◌<◌, [], IfOk, OnOk};
-ghost use Rattle.std.specs.Option.{option_copied};
+ghost use Rattle.std.specs.Prelude.{◌≡◌, ◌<◌, [], IfOk, OnOk};
 ghost use Rattle.aprs_summary.specs.StationRows as Spec;
 
 use aprs_ax25::Callsign;
@@ -9,7 +8,7 @@ use std::alloc::{Allocator, Global};
 use std::collections::BTreeMap;
 use std::marker::Model;
 
-/// A station, and how many rows it has.
+/// A station, and how many of its rows came one after another.
 #[derive(Drop)]
 pub(crate) struct Tally {
     station: Callsign,
@@ -17,7 +16,8 @@ pub(crate) struct Tally {
 }
 
 /// How many rows each station has. The station that was counted last is put into the map where
-/// another follows it, since most rows follow one of their own station.
+/// another follows it, since most rows follow one of their own station. Most stations come once so,
+/// and then one search is enough.
 pub struct Counting<A: Allocator = Global> {
     map: BTreeMap<Callsign, u64, A>,
     last: Option<Tally>,
@@ -33,11 +33,13 @@ impl<A: Allocator> Drop for Counting<A> {
 impl<A: Allocator> Model for Counting<A> {
     ghost use Rattle.std.specs.Prelude.{ℕ, List};
     ghost use Rattle.aprs_ax25.specs.Callsign.{Call};
-    ghost use Rattle.aprs_summary.specs.StationRows.{with_last};
+    ghost use Rattle.aprs_summary.specs.StationRows.{LastFits, with_last};
 
     ghost Value = { List (Call × ℕ) };
 
     ghost view = { λ t. with_last t.last t.map.entries };
+
+    ghost invariant = { λ t. LastFits t.last t.map.entries };
 }
 
 impl<A: Allocator + Copy> Counting<A> {
@@ -69,10 +71,9 @@ impl<A: Allocator + Copy> Counting<A> {
             last => last,
         };
         put(&mut self.map, last)?;
-        let rows = one_more(self.map.get(station));
         self.last = Some(Tally {
             station: station.copy(),
-            rows,
+            rows: 1,
         });
         Ok(())
     }
@@ -87,27 +88,20 @@ impl<A: Allocator + Copy> Counting<A> {
     }
 }
 
-/// Puts the station that was counted last into the map, with the number of its rows. Without such a
-/// station the map stays.
+/// Adds the rows of the station that was counted last to those that it has in the map. Their number
+/// has to be below 2^64. Without such a station the map stays.
 fn put<A: Allocator + Copy>(
     map: &mut BTreeMap<Callsign, u64, A>,
     last: Option<Tally>,
 ) -> Result<(), Memory>
+    requires { Spec.LastFits last map.old.entries }
     ensures { OnOk result (map.new.entries ≡ Spec.with_last last map.old.entries) }
 {
     if let Some(Tally { station, rows }) = last {
-        map.insert(station, rows)?;
+        let again = station.copy();
+        if let Some(before) = map.insert(station, rows)? {
+            map.insert(again, before + rows)?;
+        }
     }
     Ok(())
-}
-
-/// One more than the known number, which has to be below 2^64 - 1, or 1 where none is known.
-fn one_more(known: Option<&u64>) -> u64
-    requires { Spec.count_in (option_copied known) < 18446744073709551615 }
-    ensures { result ≡ Spec.count_in (option_copied known.entry) + 1 }
-{
-    match known {
-        Some(count) => *count + 1,
-        None => 1,
-    }
 }
