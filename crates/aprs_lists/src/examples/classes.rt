@@ -5,7 +5,6 @@ ghost use Rattle.aprs_lists.specs.Class.{class_text};
 ghost use Rattle.aprs_lists.specs.Examples.{hi_to, message_to, text_to};
 
 /// Bulletins, announcements and those of the weather service have addressees of their own.
-#[tactic(auto, unfolding(crate::specs::Class::is_bulletin_of, crate::specs::Class::is_ack_text, crate::specs::Class::is_ended_number))]
 pub fn addressees_have_classes()
     ensures bulletins { Gives (λ to. class_text (hi_to to)) (
         (codes "BLN0", codes "bulletin") ∷  -- the first digit
@@ -51,7 +50,6 @@ pub fn addressees_have_classes()
 {}
 
 /// The texts of telemetry and queries begin so, with an id or without.
-#[tactic(auto, unfolding(crate::specs::Class::is_bulletin_of, crate::specs::Class::is_ack_text, crate::specs::Class::is_ended_number))]
 pub fn texts_have_classes()
     ensures telemetry { Gives (λ text. class_text (text_to text)) (
         (codes "PARM.", codes "telemetry") ∷  -- names
@@ -84,7 +82,6 @@ pub fn texts_have_classes()
 {}
 
 /// An answer is an ack with a number, a brace and perhaps another number, and has no id.
-#[tactic(auto, unfolding(crate::specs::Class::is_bulletin_of, crate::specs::Class::is_ack_text, crate::specs::Class::is_ended_number))]
 pub fn answers_have_a_class()
     ensures reads { Gives (λ text. class_text (text_to text)) (
         (codes "ack5}", codes "answer") ∷  -- one digit
