@@ -96,7 +96,9 @@ test("all lines that are refused are found, and the rest is left", async () => {
   assert.deepEqual(damage.map(it => it.line), [2, 4, 5]);
   assert.equal(textOf(without(bytes, damage)), "a\nb\nc\n");
   assert.equal(textOf(without(bytes, [])), "a\nx1\nb\nx2\nx3\nc\n");
-  assert.equal(await damagedLines(bytesOf("x\n".repeat(200)), check), null);
+  // more than a hundred aren't looked for
+  const many = n => damagedLines(bytesOf("x\n".repeat(n)), check);
+  assert.deepEqual([(await many(100)).length, await many(101)], [100, null]);
   assert.equal(await damagedLines(bytes, async () => ({ line: 1, why: "Memory" })), null);
 });
 test("many damaged lines of a large log are found, and little of it is checked again", async () => {
