@@ -177,6 +177,31 @@ def test_first_view(page: Chromium, folder: pathlib.Path, width: int, height: in
 
 
 @pytest.mark.browsers("Chromium")
+@pytest.mark.parametrize("width, height, most", [(1440, 900, 380), (1024, 600, 350)])
+def test_first_view_of_much_news(page: Chromium, folder: pathlib.Path, width: int, height: int,
+                                 most: int) -> None:
+    """Also below three rows of news, a roster and checkpoints, with four logs one of whose clocks
+    is wrong."""
+    fresh(page, folder)
+    page.size(width, height)
+    logs = {f"{it}.log": log(20, it) + place(5400, f"Q1SOS-{n + 1}", 31, it, "EMERGENCY") +
+            line(5400 + n, "Q1ASK", f":Q1NET    :are you there?{{{n}", it) +
+            line(5500, "Q1ZERO", "!0000.00N/00000.00E>", it)
+            for n, it in enumerate(("RX1", "RX2", "RX3"))}
+    late = "".join(place(3600 + 100 * k, f"Q1A-{k % 15 + 1}", 30 + k % 20, "RX4", f"no. {k}")
+                   for k in range(20))
+    roster = "call,name\n" + "".join(f"Q1OFF-{k},Helper {k}\n" for k in range(1, 9))
+    give(page, folder, {**logs, "RX4.log": late, "roster.csv": roster,
+                        "points.txt": "Start 54.5 -3.5 200\nTop 54.6 -3.5 200\n"})
+    page.wait(f"{MADE} && document.querySelector('#passed tbody tr') !== null")
+    news = page.js("[...document.querySelectorAll('#news > *')].map(it => it.textContent)")
+    for word in ("EMERGENCY", "unanswered", "silent", "expected not heard", "clock of RX4", "0, 0"):
+        assert any(word in it for it in news), (word, news)
+    top = page.js("document.getElementById('map').getBoundingClientRect().top")
+    assert top <= most, (top, news)
+
+
+@pytest.mark.browsers("Chromium")
 def test_many_receivers(page: Chromium, folder: pathlib.Path) -> None:
     """A log of 2,000 receivers that heard the same is drawn, and says whose clocks are compared."""
     fresh(page, folder)

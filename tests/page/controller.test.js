@@ -51,6 +51,13 @@ test("a call in a message leads to its place", { skip }, async () => {
   assert.equal(page.picked, "station Q1OLD");
   byId("one-close").click();
 });
+test("where a mark is set the list stays as it is, with the keyboard in its row", { skip }, () => {
+  const keyNow = () => document.activeElement.closest("tr")?.dataset.key;
+  [...document.querySelectorAll("#things .pick")].find(it => it.textContent === "Q1OLD").focus();
+  assert.equal(keyNow(), "station Q1OLD");
+  page.marks.add("dealt", { alarm: "silent of another one", note: "" });
+  assert.equal(keyNow(), "station Q1OLD");
+});
 test("a message is marked as dealt with, by all its lists", { skip }, () => {
   button("#messages", "dealt with").click();
   assert.ok(newsOf("0 messages unanswered"));
@@ -112,8 +119,13 @@ test("an emergency that comes while the form is open stands above it", { skip },
   // neither is in a part that the form hides
   for (const id of ["urgent", "needs"])
     assert.equal(byId(id).closest("header, main, footer, .files"), null);
+  // what was looked for stays so where it is among that
+  byId("find").value = page.choices.find = "sos";
+  byId("find").dispatchEvent(new Event("input"));
   byId("urgent").querySelector("a").click();
   await until(() => page.picked);
+  assert.deepEqual([byId("find").value, page.choices.find], ["sos", "sos"]);
+  enter("find", "", "input");
   assert.deepEqual([byId("ics").hidden, page.picked], [true, "station Q1SOS"]);
   button("#urgent", "dealt with").click();
   assert.equal(byId("urgent").hidden, true);

@@ -2,7 +2,11 @@ import assert from "node:assert/strict";
 import { test } from "node:test";
 import { byId, enter, open, pen, skip, textsOf, until } from "./window.js";
 import { vectorOf } from "../../page/src/geo/sphere.js";
-import { message, messageTable, place, row, table } from "./tables.js";
+import { netOf } from "../../page/src/net/net.js";
+import { atOnce } from "../../page/src/util/tasks.js";
+import {
+  allOfLines, message, messageTable, place, row, SETTINGS, table,
+} from "./tables.js";
 
 const COURSE = '<gpx><wpt lat="54.5" lon="-3.5"><name>Start</name></wpt>' +
   '<rte><rtept lat="54.5" lon="-3.5"/><rtept lat="54.6" lon="-3.4"/></rte></gpx>';
@@ -102,6 +106,16 @@ test("who heard whom, who repeated whom, and when", { skip }, () => {
     "Q1ZERO"]);
   assert.deepEqual(textsOf("#timeline .hours span"), ["18:00", "18:16", "18:33", "18:50", "19:06"]);
 });
+test("the most in a part of the time is as high as its strip, and others as their share", { skip },
+  async () => {
+    const { timelineList } = await import("../../page/src/lists/timeline.js");
+    const all = allOfLines([0, 1, 2, 3, 3600, 7200, 7201].map(it =>
+      place(it, "Q1A", 54.5, -3.5, { text: `no. ${it}` })));
+    const net = atOnce(netOf(all, -Infinity)), box = document.createElement("div");
+    atOnce(timelineList(box, all.rows, net, { sent: new Map([["Q1A", 7]]), clock: SETTINGS }));
+    const high = [...box.querySelector("path").getAttribute("d").matchAll(/v-([\d.]+)/g)];
+    assert.deepEqual(high.map(it => it[1]), ["20.0", "8.0", "12.0"]);
+  });
 test("what is looked for, and of which kind, is in the list and on the map", { skip }, async () => {
   enter("find", "leader", "input");
   assert.deepEqual([textsOf("#things tbody th"), byId("found").textContent],

@@ -2,10 +2,12 @@ import assert from "node:assert/strict";
 import { test } from "node:test";
 import { answering, bytesOf, line, textOf } from "./stand.js";
 import { goesOn, newIn } from "../../page/src/intake/growth.js";
-import { fileOf, isGrown, leaveOut, look, takePlace } from "../../page/src/intake/intake.js";
+import { fileOf, isGrown, leaveOut, look, shifts, takePlace }
+  from "../../page/src/intake/intake.js";
 import { merged } from "../../page/src/intake/merging.js";
 import { beginEarly, textsOf } from "../../page/src/intake/runs.js";
 import { beginWorkers } from "../../page/src/worker/pool.js";
+import { limits } from "../../page/src/worker/sources.js";
 
 await beginWorkers("", null, fault => assert.fail(fault));
 const [A, B, C] = ["18:00:00", "18:05:00", "18:10:00"].map(it => line(it, "HILL"));
@@ -44,6 +46,29 @@ test("what is new is the rest of what has grown, and what came", () => {
   for (const now of [[], [["a", bytesOf(B)]], [["a", new Blob([A + B])]]])
     assert.equal(new_([["a", log]], now), null);
   assert.equal(new_([["a", torn]], [["a", bytesOf("torn no more\n")]]), null);
+});
+test("nothing begins early over large files, nor where clocks are put right", async t => {
+  const { alone } = limits, log = logOf("a.log", A), asked = [];
+  t.after(() => {
+    Object.assign(limits, { alone });
+    shifts.clear();
+  });
+  const answer = ({ command }) => void asked.push(command) ?? null;
+  const early = (many = 0) => answering({ answer }, async () => {
+    asked.length = 0;
+    beginEarly([log], 30);
+    for (let k = 0; k === 0 || k < 400 && asked.length < many; k++)
+      await new Promise(done => setTimeout(done, 50));
+  });
+  await early(3);
+  assert.deepEqual(asked, ["rows", "merge", "messages"]);
+  shifts.set("HILL", 60);
+  await early();
+  assert.deepEqual(asked, []);
+  shifts.clear();
+  limits.alone = 9;
+  await early();
+  assert.deepEqual(asked, []);
 });
 test("new lines are merged into the book that is there, early or not", async () => {
   for (const isEarly of [false, true]) {

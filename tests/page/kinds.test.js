@@ -27,6 +27,18 @@ test("books, captures, maps, rosters and logs are known", () => {
     [LINE, "x.txt", "log"], ["0Z RX1 c000\n" + LINE, "x.txt", "log"], ["", "x.log", "log"], ["Q1A x", "x.log", "log"]];
   for (const [text, name, kind] of cases) assert.equal(kindOf(bytesOf(text), name), kind, text);
 });
+test("checkpoints are known, whatever the first one is called", () => {
+  const start = "Start 54.5 -3.5 200\n", kinds = { [start]: "checkpoints",
+    ["# of the race\n\n" + start]: "checkpoints", "CP1 54.5 -3.5 200\n": "checkpoints",
+    "name,north,east,metres\nHigh Point,54.5,-3.5,200\n": "checkpoints",
+    "Top;54,5;-3,5;200\n": "checkpoints", "Start 95 -3.5 200\n": "log", "Start 54.5 -3.5\n": "log",
+    [LINE + start]: "log" };
+  for (const [text, kind] of Object.entries(kinds))
+    for (const mark of ["", "\xef\xbb\xbf"])
+      assert.equal(kindOf(bytesOf(mark + text), "x.txt"), kind, text);
+  // a log has its own name
+  assert.equal(kindOf(bytesOf(start), "x.log"), "log");
+});
 test("a note isn't a list of calls, whose words would be expected on the air", () => {
   const kinds = { "hello world, this is a note\n": "log", "To do:\n": "log", "I am late\n": "log",
     "2024 was good\n": "log", "Q1RUN-7 Runner\n": "roster", "q1run runner\n": "roster",
@@ -84,7 +96,9 @@ test("all lines that are refused are found, and the rest is left", async () => {
   assert.deepEqual(damage.map(it => it.line), [2, 4, 5]);
   assert.equal(textOf(without(bytes, damage)), "a\nb\nc\n");
   assert.equal(textOf(without(bytes, [])), "a\nx1\nb\nx2\nx3\nc\n");
-  assert.equal(await damagedLines(bytesOf("x\n".repeat(200)), check), null);
+  // more than a hundred aren't looked for
+  const many = n => damagedLines(bytesOf("x\n".repeat(n)), check);
+  assert.deepEqual([(await many(100)).length, await many(101)], [100, null]);
   assert.equal(await damagedLines(bytes, async () => ({ line: 1, why: "Memory" })), null);
 });
 test("many damaged lines of a large log are found, and little of it is checked again", async () => {

@@ -107,6 +107,14 @@ test("the map opens on what is near most, and not on a few places far away", () 
   const far = line([[10, 20], [-40, 170]]), isIn = capOf([near, far]);
   assert.deepEqual([isIn(near, 0), isIn(near, 39), isIn(far, 0), isIn(far, 1)],
     [true, true, false, false]);
+  // of a way of ten kilometres three quarters lie 3.75 km around its middle, and ten times as far
+  // is near
+  const isNear = kilometres => {
+    const ways = [...Array(40).keys()].map(k => k / 3.9);
+    const all = line([...ways, kilometres].map(it => [54 + it / 111.195, -3.5]));
+    return capOf([all])(all, 40);
+  };
+  assert.deepEqual([-31, 41, -34, 44].map(isNear), [true, true, false, false]);
   const view = Object.assign(new Projection(), { width: 600, height: 400 });
   view.fit([near, far], isIn);
   assert.ok(distance(view.centre, vectorOf(54.52, -3.5)) < 1000);

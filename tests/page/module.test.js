@@ -22,6 +22,7 @@ const file = fileOfModule(), skip = file ? false : "needs a module of these sour
 const module = file ? new WebAssembly.Module(fs.readFileSync(file)) : null;
 const bytesOf = text => new TextEncoder().encode(text);
 const textOf = bytes => new TextDecoder().decode(bytes);
+const CAPTURE = ["receiver", "moment"];
 /** `N0CALL-7>APRS:>Hi`, as the README has it, and a message with a number. */
 const FRAME = "c00082a0a4a64040e09c60868298986f03f03e4869c0";
 const line = (clock, receiver, frame = FRAME) => `2024-05-01T${clock}Z ${receiver} ${frame}\n`;
@@ -55,7 +56,8 @@ test("the command says a fault by its input, line and cause, and ends with its s
     const folder = fs.mkdtempSync(path.join(os.tmpdir(), "aprsbook-"));
     t.after(() => fs.rmSync(folder, { recursive: true }));
     const parts = { version: "", helps: {}, module: fs.readFileSync(file).toString("base64"),
-      rows: { aprsbook: [{ words: ["merge"], options: ["gap"], required: [], many: true }] } };
+      rows: { aprsbook: [{ words: ["merge"], options: ["gap"], required: [], many: true },
+        { words: ["convert", "capture"], options: CAPTURE, required: CAPTURE, many: true }] } };
     fs.writeFileSync(path.join(folder, "command.mjs"), `import fs from "node:fs";
       import { command } from ${JSON.stringify(COMMAND)};
       command(JSON.parse(fs.readFileSync("parts.json", "utf8")));`);
@@ -63,15 +65,19 @@ test("the command says a fault by its input, line and cause, and ends with its s
     const logs = { "a.log": RX1, "torn.log": RX1 + "torn\n", "60.book": "APRSBOOK 3 60\nEND 0\n" };
     for (const [name, text] of Object.entries(logs))
       fs.writeFileSync(path.join(folder, name), text);
-    const ended = names => {
+    const ended = (names, words = ["merge"]) => {
       const { status, stdout, stderr } = spawnSync(process.execPath,
-        ["command.mjs", "merge", ...names], { cwd: folder, encoding: "utf8" });
+        ["command.mjs", ...words, ...names], { cwd: folder, encoding: "utf8" });
       return [status, stdout.split("\n")[0], stderr];
     };
     assert.deepEqual(ended(["a.log"]), [0, "APRSBOOK 3 30", ""]);
     assert.deepEqual(ended(["a.log", "torn.log"]), [1, "", "aprsbook: torn.log: line 2: Moment\n"]);
     // of no line alone
     assert.deepEqual(ended(["a.log", "60.book"]), [1, "", "aprsbook: 60.book: other gap\n"]);
+    // a folder can't be read on: of a log from its first line, and a capture has none
+    assert.deepEqual(ended(["."]), [1, "", "aprsbook: .: line 1: Read\n"]);
+    const capture = ["convert", "capture", "--receiver", "RX1", "--moment", "2024-05-01T12:00:00Z"];
+    assert.deepEqual(ended(["."], capture), [1, "", "aprsbook: .: line 0: Read\n"]);
   });
 test("words go to the function: of a table its name, of a capture receiver and moment", { skip },
   () => {

@@ -3,6 +3,7 @@
 
 usage: tests/page/mutations.py [--lines 60] [--seed 20261129] [--list] [--browser] [--ran FOLDER]
                                [MODULE..]
+       tests/page/mutations.py --of FILE [--list] [--browser] [--ran FOLDER]
 
 A comparison, a constant, an operator or a truth is turned, or a call is left out. Each change is
 tried in a copy, with the tests that run what is changed, the nearest ones first, and with the types
@@ -10,7 +11,9 @@ tried in a copy, with the tests that run what is changed, the nearest ones first
 that run what is changed. What these run is kept in FOLDER, and taken from there the next time. At
 most 5 of 60 may pass; each that does is explained in SURVIVORS below, by module and text of its
 line, and isn't tried in browsers. The status is 1 if more do. With MODULE the lines are of these
-alone. Needs node, tsc and, for what is drawn, node-jsdom; in browsers what tests/browser needs.
+alone. FILE is what another run printed: its changes are tried again, where their lines are still as
+they were, so that a lot can be tried with the tests that it asked for. Needs node, tsc and, for
+what is drawn, node-jsdom; in browsers what tests/browser needs.
 """
 import argparse
 import concurrent.futures
@@ -61,6 +64,10 @@ SURVIVORS: Dict[Tuple[str, str], str] = {
     ("net/book-slices.js", "if (begin < at) pieces"): "a piece of no bytes is one more",
     ("map/symbols.js", "cloud:"): "a bow that is round is turned by a degree",
     ("worker/wasm-host.js", "const NAME_ROOM"): "a fault has no longer name",
+    ("net/table-lines.js", "if (n > wanted) at ="): "the end of a line is looked for where it is",
+    ("map/station-layer.js", "room.take(width - 130"): "a name may stand a pixel nearer to the scale",
+    ("net/table-reader.js", "same: new Uint32Array(n), order"): "another order takes its place",
+    ("formats/base85.js", "if (out + 4 <="): "the last bytes are written one by one",
     ("formats/file-kinds.js", "Moment:"): "another year is as good an example of a moment",
 }
 
@@ -114,6 +121,25 @@ def drawn(count: int, seed: int, modules: List[str]) -> List[Change]:
         after = turned(line, some) if not modules or module in modules else None
         if after is not None and len(changes) < count:
             changes.append(Change(module, number, begin, line, after))
+    return changes
+
+
+# a change as a run prints it at its end
+PRINTED = re.compile(r"^(\S+\.js):(\d+)\n- (.*)\n\+ (.*)$", re.M)
+
+
+def printed(text: str) -> List[Change]:
+    """The changes that another run printed, each in its line as that was, or the nearest like it."""
+    changes: List[Change] = []
+    for module, at, before, after in PRINTED.findall(text):
+        path = SOURCES / module
+        lines = code_lines(path.read_text(encoding="utf-8")) if path.exists() else []
+        found = [(abs(number - int(at) + 1), number, begin) for number, begin, line in lines
+                 if line == before]
+        if found:
+            changes.append(Change(module, *min(found)[1:], before, after))
+        else:
+            print(f"isn't there any more: {module}: {before.strip()}", flush=True)
     return changes
 
 
@@ -260,9 +286,11 @@ def main() -> int:
     parser.add_argument("--list", action="store_true", help="the changes alone")
     parser.add_argument("--browser", action="store_true", help="with the tests in browsers")
     parser.add_argument("--ran", type=pathlib.Path, help="where it is kept what these run")
+    parser.add_argument("--of", type=pathlib.Path, help="the changes that another run printed")
     parser.add_argument("modules", nargs="*", metavar="MODULE")
     args = parser.parse_args()
-    changes = drawn(args.lines, args.seed, args.modules)
+    changes = (printed(args.of.read_text(encoding="utf-8")) if args.of
+               else drawn(args.lines, args.seed, args.modules))
     left: List[Change] = []
     if not args.list:
         with tempfile.TemporaryDirectory() as folder, \

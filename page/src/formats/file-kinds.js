@@ -1,6 +1,8 @@
 // @ts-check
 // What a file is, by its name and by how it begins, and how its text is spelled.
 
+import { hasCheckpoints } from "../net/checkpoints.js";
+
 /**
  * Whether a text begins as a map does.
  * @param {string} begin
@@ -47,7 +49,8 @@ const ROSTER =
   new RegExp(`^(?:\\s*#[^\\n]*\\n)*\\s*(?:"?${WORD}"? *[,;\\t]|"?${CALL}"?(?:\\s|$))`);
 
 /**
- * What a file is: book, KISS stream, map, roster, log, or what else it is, such as `a picture`.
+ * What a file is: book, KISS stream, map, roster, checkpoints, log, or what else it is, such as
+ * `a picture`.
  * @param {Uint8Array} bytes how it begins, as `spelled` gives it @param {string} name
  */
 export function kindOf(bytes, name) {
@@ -58,12 +61,12 @@ export function kindOf(bytes, name) {
   const stranger = STRANGERS.find(([form]) => form.test(begin));
   if (stranger) return stranger[1];
   // the first line of a log may be torn
-  if (!/^\d{4}-\d\d-\d\dT/m.test(begin) && /\.(txt|csv|tsv)$/i.test(name) && ROSTER.test(begin))
-    return "roster";
-  return "log";
+  const isList = /\.(txt|csv|tsv)$/i.test(name) && !/^\d{4}-\d\d-\d\dT/m.test(begin);
+  return !isList ? "log" : hasCheckpoints(begin) ? "checkpoints"
+    : ROSTER.test(begin) ? "roster" : "log";
 }
 /** The kinds that this page reads. */
-export const READ = ["book", "KISS stream", "map", "roster", "log"];
+export const READ = ["book", "KISS stream", "map", "roster", "checkpoints", "log"];
 
 /**
  * A text as this page reads it: what Windows may write is taken out, and named.

@@ -52,17 +52,27 @@ function checkpointIn(line) {
   return name && Math.abs(it.north) <= 90 && Math.abs(it.east) <= 180 && it.metres > 0 ? it : null;
 }
 /**
+ * The lines of a text that say something, with their numbers, but for a head.
+ * @param {string} text
+ */
+function linesIn(text) {
+  const lines = text.replace(/^\ufeff/, "").split(/\r\n|\n|\r/)
+    .map((it, n) => ({ n: n + 1, said: it.replace(/(^|\s)#.*/, "").trim() })).filter(it => it.said);
+  if (lines.length && !/[0-9]/.test(lines[0].said) && fieldsOf(lines[0].said).length >= 4)
+    lines.shift();
+  return lines;
+}
+/** Whether a text that begins so has checkpoints. */
+export const hasCheckpoints = (/** @type {string} */ begin) =>
+  linesIn(begin).slice(0, 1).some(it => checkpointIn(it.said));
+/**
  * The checkpoints of a text: a name, degrees north and east, metres, perhaps below a head line; an
  * empty list where it is none of these, and a throw at a line that is none among others.
  * @param {string} text
  */
 export function readCheckpoints(text) {
-  const lines = text.replace(/^\ufeff/, "").split(/\r\n|\n|\r/)
-    .map((it, n) => ({ n: n + 1, said: it.replace(/(^|\s)#.*/, "").trim() })).filter(it => it.said);
-  if (lines.length && !/[0-9]/.test(lines[0].said) && fieldsOf(lines[0].said).length >= 4)
-    lines.shift();
-  if (!lines.length || !checkpointIn(lines[0].said)) return [];
-  return lines.map(({ n, said }) => {
+  const lines = linesIn(text);
+  return !hasCheckpoints(text) ? [] : lines.map(({ n, said }) => {
     const it = checkpointIn(said);
     if (!it) throw new Error(`line ${n} is no checkpoint, such as Tarn 54.5183 -3.5216 150`);
     return it;
