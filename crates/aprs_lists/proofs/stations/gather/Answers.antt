@@ -29,14 +29,14 @@ take-requires-clause-room g c =
 pub count_row-requires : goal.count_row-requires
 count_row-requires g c =
     let few = room_for_one _ c.loop-row.row-iterator.rows _ c.in-Some.row
-    c.loop-row.activities c.call-2.result.now c.loop-row.invariant.active
+    c.loop-row.activities c.call-in-loop-row.result.now c.loop-row.invariant.active
     c.in-Some.ensures.steps in
     omega (arith, few, c.requires)
 
 pub loop-row-preserved : goal.loop-row-preserved
 loop-row-preserved g c =
     let row = c.in-Some.row in
-    let own = c.call-2.ensures ∙ c.after-sender.ensures
+    let own = c.call-in-loop-row.ensures ∙ c.after-sender.ensures
     ∙ ap (λ (x : Received). (key_of x.frame).source) c.greatest.ensures in
     record {
       said =
