@@ -42,7 +42,8 @@ def test_rows_of_a_time() -> None:
 def test_rows_that_have_a_column() -> None:
     rows = [place("18:00", "Q1A", 0.0, -3.5), ROWS[0], place("18:02", "Q1A", 54.5, -3.5)]
     lines = table_text(Row, rows).splitlines()
-    for names in [("first", "latitude"), ("first", "latitude", REST)]:
+    for names in [("first", "latitude"), ("first", "latitude", "text"),
+                  ("first", "latitude", REST)]:
         found = shown(lines, *names, having="latitude")
         assert [it[0] for it in found] == [at("18:00"), at("18:02")]
         found = shown(lines, *names, time=Time(at("18:01")), having="latitude")
@@ -59,15 +60,16 @@ def test_what_is_kept_of_a_column_is_bounded() -> None:
     assert len(known) <= table.KNOWN + 2
 
 
-@pytest.mark.parametrize("names", [("source", "text"), SHORT])
+@pytest.mark.parametrize("having", ["", "source"])
+@pytest.mark.parametrize("names", [("source", "text"), ("source", "destination"), SHORT])
 @pytest.mark.parametrize("number", [2, 3, table.BATCH + 1, table.BATCH + 2])
-def test_a_line_without_its_fields(names: Sequence[str], number: int) -> None:
+def test_a_line_without_its_fields(names: Sequence[str], number: int, having: str) -> None:
     """It is named, also where another line has one more, so that all are as many."""
     lines = [LINES[0], *LINES[1:2] * (table.BATCH + 4)]
     lines[number - 1] = "status\tbroken"
     lines[number] += "\tmore" * (len(lines[0].split("\t")) - 2)
     with pytest.raises(Fault) as fault:
-        shown(lines, *names)
+        shown(lines, *names, having=having)
     assert fault.value.words == (f"the table of rows: line {number} has 2 fields, and "
                                  f"{len(lines[0].split())} columns are named")
 
