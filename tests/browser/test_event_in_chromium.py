@@ -59,7 +59,8 @@ def test_hostile(page: Chromium, folder: pathlib.Path) -> None:
         # a comment, a status and a message
         is_(said.count(hostile.shown(text)), 3)
     is_(said.count("caf\\xe9 \\xff\\x80"), 1)
-    is_(page.js("aprsbook.layers.stations.things.length"), len(hostile.TEXTS) + 1 + 2 * len(hostile.NAMES))
+    is_(page.js("aprsbook.layers.stations.things.length"),
+        len(hostile.TEXTS) + 1 + 2 * len(hostile.NAMES))
     is_(page.js("aprsbook.layers.vectors.all[0].points[0].name"), hostile.TEXTS[0])
     page.js("document.querySelectorAll('.pick, th button').forEach(it => "
             "it.dispatchEvent(new Event('click')))")
@@ -133,7 +134,8 @@ def test_marks_without_a_font(page: Chromium, folder: pathlib.Path) -> None:
     marks = "".join("\\x%02x" % it for it in ("a" + chr(0x1DA9B) * 60).encode()[1:])
     page.open(page_of(folder / "marks.html", lines, message(
         "Q1A", "Q1B", "a" + marks, "unanswered", 1, id="1")), 1280, 800)
-    is_(page.js("(it => it.scrollWidth <= it.clientWidth)(document.getElementById('messages-box'))"),
+    is_(page.js("(it => it.scrollWidth <= it.clientWidth)"
+                "(document.getElementById('messages-box'))"),
         True)
 
 
@@ -605,7 +607,8 @@ def test_hidden(page: Chromium, folder: pathlib.Path) -> None:
     page.wait("aprsbook.page.picked === 'station Q1MIC-9'")
     is_(page.js("[since.value, %s.value, clock.value, then.textContent]" % FIND),
         ["0", "", "1000", "02:59:00"])
-    is_(page.js("(aprsbook.map.paint(), aprsbook.layers.stations.marks.some(it => it.picked))"), True)
+    is_(page.js("(aprsbook.map.paint(), "
+                "aprsbook.layers.stations.marks.some(it => it.picked))"), True)
     is_(page.js("location.hash"), "#pick=station+Q1MIC-9")
     is_(page.problems(), [])
 
@@ -725,7 +728,8 @@ def test_marks(page: Chromium, folder: pathlib.Path) -> None:
     page.open(page_of(folder / "marks.html", rows), 1280, 900)
     is_(page.js(TAP % "Q1CLB-2"), [5, None])
     picture(page, "fan")
-    apart = page.js("aprsbook.layers.stations.marks.filter(it => it.thing.name !== 'Q1A').map(it => it.x)")
+    apart = page.js("aprsbook.layers.stations.marks.filter(it => it.thing.name !== 'Q1A')"
+                    ".map(it => it.x)")
     assert max(apart) - min(apart) > 30, apart
     is_(page.js(TAP % "Q1CLB-3"), [5, "station Q1CLB-3"])
     page.key("Escape")
@@ -782,7 +786,7 @@ def test_coast(page: Chromium, folder: pathlib.Path) -> None:
     for north, east, is_land in ((47, 2, 1), (51, -21, 0), (-26, 134, 1), (-46, -141, 0),
                                  (-81, 7, 1), (67, 176, 1), (41, -101, 1), (3, -4, 0)):
         for near in 0.02, 0.2:
-            got = page.js(f"(() => {{ const {{ map, layers }} = aprsbook; layers.stations.things = []; "
+            got = page.js("(() => { const { map, layers } = aprsbook; layers.stations.things = []; "
                           f"map.look('{north},{east},{near}'); map.paint(); "
                           "return [...map.pen.getImageData(map.canvas.width / 2, "
                           "map.canvas.height / 2, 1, 1).data] })()")

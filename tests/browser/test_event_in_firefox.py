@@ -80,8 +80,8 @@ def test_keys(page: Browser, folder: pathlib.Path) -> None:
     page.open(event_page(folder / "keys.html", *EVENING))
     page.wait("document.querySelectorAll('#timeline tbody tr').length > 10")
     page.js("(looks.open = true, 1)")  # a menu, as saves and adds
-    left = set("in out fit fill sound play clock colours map find kind since looks local saves adds "
-               "ics-open".split())
+    left = set("in out fit fill sound play clock colours map find kind since looks local saves "
+               "adds ics-open".split())
     left |= {"pick station", "miles", "place-form", "measure", "edge"}
     for _ in range(60):  # more would leave the page
         if not left:

@@ -1,7 +1,8 @@
 """The layers of the map, each painted alone, beside small pictures of them in layers/.
 
 A picture is as before where no more than a few of its spots differ: fonts and the smoothing of
-lines are those of a machine. LAYERS=write in the environment writes the pictures anew; look at them then.
+lines are those of a machine. LAYERS=write in the environment writes the pictures anew; look at them
+then.
 """
 import base64
 import json

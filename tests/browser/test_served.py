@@ -1,5 +1,5 @@
-"""The page of a net that `aprs-net serve` hands out: it is told at once what is new, and desks share
-what they write down."""
+"""The page of a net that `aprs-net serve` hands out: it is told at once what is new, and desks
+share what they write down."""
 import base64
 import contextlib
 import http.client
@@ -346,7 +346,8 @@ def test_tabs_have_one_stream(page: Chromium, live: Live) -> None:
     page.driver.switch_to.window(first)
     page.driver.close()
     live.push(line(2))
-    live.write(1, "line", time="1718992800000", **{"from": "A", "to": "B", "number": "", "text": "x"})
+    live.write(1, "line", time="1718992800000",
+               **{"from": "A", "to": "B", "number": "", "text": "x"})
     for handle in page.driver.window_handles:
         page.driver.switch_to.window(handle)
         page.wait(f"{ROWS} === 2 && {LINES} === 'x'", 20)

@@ -75,7 +75,8 @@ function directory(entries, joined = true) {
     ...entries.map(it => it.length), ...offsets]));
 }
 test("directories are read as they are written", () => {
-  const entries = [{ id: 0, run: 1, length: 9, offset: 0 }, { id: 5, run: 3, length: 200, offset: 9 },
+  const entries = [{ id: 0, run: 1, length: 9, offset: 0 },
+    { id: 5, run: 3, length: 200, offset: 9 },
     { id: 300, run: 0, length: 7, offset: 2 ** 33 }];
   for (const joined of [true, false])
     assert.deepEqual(entriesOf(directory(entries, joined)), entries);
@@ -200,12 +201,14 @@ if form == "map":
 else:
     words = {"key": ", PRIMARY KEY (zoom_level, tile_column, tile_row)"}.get(form, "")
     name = "Tiles" if form == "capital" else "tiles"
-    base.execute(f'CREATE TABLE "{name}" (zoom_level integer, tile_column integer, tile_row integer, '
+    base.execute(f'CREATE TABLE "{name}" (zoom_level integer, tile_column integer, '
+                 'tile_row integer, '
                  "tile_data blob" + words + ")")
     if form in ("index", "vector", "capital"):
         base.execute("CREATE UNIQUE INDEX tile_index on tiles (zoom_level, tile_column, tile_row)")
     for z, x, y in all if form != "empty" else []:
-        base.execute("INSERT INTO tiles VALUES (?, ?, ?, ?)", (z, x, 2 ** z - 1 - y, picture(z, x, y)))
+        base.execute("INSERT INTO tiles VALUES (?, ?, ?, ?)",
+                     (z, x, 2 ** z - 1 - y, picture(z, x, y)))
 base.commit()
 `;
 const hasPython = spawnSync("python3", ["-c", "import sqlite3"]).status === 0;

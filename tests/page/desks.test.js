@@ -96,7 +96,8 @@ test("where a proxy cuts streams, the server is asked", async () => {
 });
 
 test("an entry has one spelling, which the server takes", () => {
-  assert.equal(spelling({ kind: "name", id: "1", desk: "D", at: 1, call: "Q0A", name: "\u00fc\x7f" }),
+  const name = "\u00fc\x7f";
+  assert.equal(spelling({ kind: "name", id: "1", desk: "D", at: 1, call: "Q0A", name }),
     '{"at":1,"call":"Q0A","desk":"D","id":"1","kind":"name","name":"\\u00fc\\u007f"}');
 });
 test("desks that were away have the same lines, in whatever order they hear of them", async () => {

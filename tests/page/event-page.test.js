@@ -182,7 +182,7 @@ test("a name keeps its side in a map of one size", { skip }, () => {
   map.paint();
   const { key } = stations.marks.find(it => it.thing.name === "Q1MED").thing, first = by.get(key);
   assert.equal(first, 0);
-  // four pixels beside the mark, which reaches ten far, or seventeen with the ring of who is in need
+  // four pixels beside the mark, which reaches ten far, and seventeen with a ring
   const isBeside = stations.marks.filter(it => by.get(it.thing.key) === 0).map(({ thing, x }) =>
     [thing.urgent ? 21 : 14, pen.texts.findLast(it => it[0] === thing.label)?.[1] - x]);
   assert.ok(isBeside.some(it => it[0] === 14));
@@ -473,7 +473,7 @@ test("maps and rosters that are brought are said, drawn and taken away", { skip 
   assert.deepEqual([aprsbook.layers.vectors.all.length, page.brought, byId("told").textContent],
     [1, [], ""]);
 });
-test("a large table is drawn in slices, and a drawing that is given up ends with the next", { skip },
+test("a large table is drawn in slices, and what is given up ends with the next", { skip },
   async () => {
     const rowsOf = stations => aprsbook.tableOf(table(Array.from({ length: 6000 }, (_, k) =>
       place(k, `Q1A-${k % stations}`, 54 + k / 1e5, -3, { text: "x".repeat(100) }))));

@@ -50,7 +50,8 @@ test("pictures that are dropped together lie each where its own world file says"
   for (const order of [[0, 1, 2, 3], [3, 1, 2, 0], [1, 3, 0, 2], [0, 2, 1, 3]]) {
     const { all, told, whereIs } = grounds();
     const taken = await Promise.all(order.map(k => all.take(files[k])));
-    assert.deepEqual([taken, await all.take(file("a.txt", "x"))], [[true, true, true, true], false]);
+    assert.deepEqual([taken, await all.take(file("a.txt", "x"))],
+      [[true, true, true, true], false]);
     assert.deepEqual(whereIs(), ["a.png 55 -4", "b.png 47 10"]);
     assert.deepEqual([all.waiting, [...all.worlds], field("overlay").hidden], [[], [], true]);
     assert.ok(told.every(it => it === ""));

@@ -4,7 +4,8 @@ import path from "node:path";
 import { test } from "node:test";
 import { fileURLToPath } from "node:url";
 
-const SOURCES = fileURLToPath(new URL("../../page/src", import.meta.url));
+const TOP = fileURLToPath(new URL("../..", import.meta.url));
+const SOURCES = path.join(TOP, "page/src");
 /** Folders from the lowest one up: a module imports of its own and of those before it. */
 const FLOORS = ["util", "geo", "net", "formats", "worker", "map/layers", "map", "lists", "ics309",
   "desks", "app", "intake", "."];
@@ -51,7 +52,12 @@ test("each module is imported by a test of the page's parts", () => {
   assert.deepEqual(modules.filter(it => !seen.has(it)), []);
 });
 test("no line is longer than 100 columns, but for the shapes of symbols", () => {
-  const long = modules.flatMap(name => textOf(name).split("\n").map((it, n) =>
-    ({ at: `${name}:${n + 1}`, it }))).filter(({ it }) => it.length > 100 && !/: "M/.test(it));
+  const tests = ["tests/page", "tests/browser"].flatMap(folder =>
+    fs.readdirSync(path.join(TOP, folder)).map(it => path.join(folder, it)));
+  const files = [...modules.map(it => path.join("page/src", it)), ...tests]
+    .filter(it => /\.(js|py)$/.test(it));
+  const long = files.flatMap(name => fs.readFileSync(path.join(TOP, name), "utf8").split("\n")
+    .map((it, n) => ({ at: `${name}:${n + 1}`, it })))
+    .filter(({ it }) => it.length > 100 && !/: "M/.test(it));
   assert.deepEqual(long.map(it => it.at), []);
 });

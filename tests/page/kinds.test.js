@@ -21,10 +21,12 @@ test("what is nothing of a net is named as what it is", () => {
   }
 });
 test("books, captures, maps, rosters and logs are known", () => {
-  const cases = [["APRSBOOK 3", "x", "book"], ["", "net.book", "book"], ["\xc0\0", "x", "KISS stream"],
+  const cases = [["APRSBOOK 3", "x", "book"], ["", "net.book", "book"],
+    ["\xc0\0", "x", "KISS stream"],
     ["<?xml version='1.0'?><kml>", "x.kml", "map"], ["<gpx >", "x", "map"], ["{", "x", "map"],
     ["\xef\xbb\xbfcall,name\n", "x.csv", "roster"], ["# a\nQ1A-* x\n", "x.txt", "roster"],
-    [LINE, "x.txt", "log"], ["0Z RX1 c000\n" + LINE, "x.txt", "log"], ["", "x.log", "log"], ["Q1A x", "x.log", "log"]];
+    [LINE, "x.txt", "log"], ["0Z RX1 c000\n" + LINE, "x.txt", "log"], ["", "x.log", "log"],
+    ["Q1A x", "x.log", "log"]];
   for (const [text, name, kind] of cases) assert.equal(kindOf(bytesOf(text), name), kind, text);
 });
 test("checkpoints are known, whatever the first one is called", () => {

@@ -60,7 +60,7 @@ test("keys move the map by as much in each direction, zoom, fit and fill it", ()
     move: tell("move"), zoom: tell("zoom"), fit: tell("fit"), fill: tell("fill") });
   const press = (key, of) => runs.filter(it => it.kind === "keydown").forEach(it =>
     it.run({ type: "keydown", key, target: node, preventDefault() {}, ...of }));
-  const all = ["ArrowLeft", "ArrowRight", "ArrowUp", "ArrowDown", "+", "=", "-", "0", "f", "m", "x"];
+  const all = ["ArrowLeft", "ArrowRight", "ArrowUp", "ArrowDown", ..."+=-0fmx"];
   for (const key of all) press(key);
   assert.deepEqual(said, [["move", 60, 0], ["move", -60, 0], ["move", 0, 60], ["move", 0, -60],
     ["zoom", 1.3], ["zoom", 1.3], ["zoom", 1 / 1.3], ["fit"], ["fill", true], ["measure"]]);

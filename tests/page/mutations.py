@@ -65,7 +65,7 @@ SURVIVORS: Dict[Tuple[str, str], str] = {
     ("map/symbols.js", "cloud:"): "a bow that is round is turned by a degree",
     ("worker/wasm-host.js", "const NAME_ROOM"): "a fault has no longer name",
     ("net/table-lines.js", "if (n > wanted) at ="): "the end of a line is looked for where it is",
-    ("map/station-layer.js", "room.take(width - 130"): "a name may stand a pixel nearer to the scale",
+    ("map/station-layer.js", "room.take(width - 130"): "a name stands a pixel nearer to the scale",
     ("net/table-reader.js", "same: new Uint32Array(n), order"): "another order takes its place",
     ("formats/base85.js", "if (out + 4 <="): "the last bytes are written one by one",
     ("formats/file-kinds.js", "Moment:"): "another year is as good an example of a moment",
@@ -129,7 +129,7 @@ PRINTED = re.compile(r"^(\S+\.js):(\d+)\n- (.*)\n\+ (.*)$", re.M)
 
 
 def printed(text: str) -> List[Change]:
-    """The changes that another run printed, each in its line as that was, or the nearest like it."""
+    """The changes that another run printed, each in its line as that was, the nearest like it."""
     changes: List[Change] = []
     for module, at, before, after in PRINTED.findall(text):
         path = SOURCES / module

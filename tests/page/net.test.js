@@ -243,7 +243,8 @@ test("a kill at 0, 0 is a kill, where the thing was", () => {
   assert.deepEqual([it.killed, it.now.state, it.now.north, it.now.east], [true, "killed", 54, -3]);
   assert.deepEqual([it.unfixed, thing(net, "Y").unfixed, thing(net, "Y").now], [0, 1, null]);
   assert.equal(it.at(lines.length ? it.first + 1 : 0).state, "live");
-  assert.deepEqual([again.killed, again.placedBy.map(k => again.rows.north[k])], [false, [5, 5, 7]]);
+  assert.deepEqual([again.killed, again.placedBy.map(k => again.rows.north[k])],
+    [false, [5, 5, 7]]);
   // also where the table begins with the kill
   const turned = thing(netOfLines([lines[1], lines[0]]), "X");
   assert.deepEqual([turned.now.state, turned.now.north, turned.unfixed], ["killed", 54, 0]);

@@ -71,7 +71,8 @@ test("a log that was packed twice says so, and one that was packed once is read"
     };
     await aprsfiles.add([packed(1), packed(2)]);
     const { "1.log.gz": once, "2.log.gz": twice } = verdicts();
-    assert.deepEqual([once, twice], ["heard 1 passed 0", "is packed by gzip twice: unpack it once"]);
+    assert.deepEqual([once, twice],
+      ["heard 1 passed 0", "is packed by gzip twice: unpack it once"]);
     takeAway("1.log.gz", "2.log.gz");
     await until(() => aprsbook.data.notes.length === 1);
   });
@@ -81,7 +82,8 @@ test("a picture that the browser can't unpack says why it is no map", { skip }, 
   const png = Uint8Array.from([0x89, 80, 78, 71, 13, 10, 26, 10, 0, 0, 0, 0]);
   await aprsfiles.add([new File([png], "huge.png")]);
   globalThis.createImageBitmap = createImageBitmap;
-  assert.equal(verdicts()["huge.png"], "is a picture, which no log is, and can\u2019t be drawn as " +
+  assert.equal(verdicts()["huge.png"],
+    "is a picture, which no log is, and can\u2019t be drawn as " +
     "a map: this browser can\u2019t unpack it, which is damaged or too large");
   takeAway("huge.png");
   await until(() => aprsbook.data.notes.length === 1);
@@ -222,7 +224,8 @@ test("a log whose handle the browser gave is read again as it grows", { skip }, 
 test("logs beside the page are followed as a list names them, those of this server alone", { skip },
   async () => {
     const { fetch } = globalThis, asked = [], log = logOf("18:50:00", "HILL", "Q1F");
-    const texts = { "/logs.txt": "hill2.log\nhttps://elsewhere.example/x.log\n", "/hill2.log": log };
+    const texts = { "/logs.txt": "hill2.log\nhttps://elsewhere.example/x.log\n",
+      "/hill2.log": log };
     globalThis.fetch = async (url, { method } = {}) => {
       const bytes = new TextEncoder().encode(texts[new URL(url).pathname] ?? "");
       asked.push(String(url));
@@ -232,7 +235,8 @@ test("logs beside the page are followed as a list names them, those of this serv
     enter("follow", "logs.txt");
     await until(() => verdicts()["hill2.log"]?.startsWith("heard"));
     assert.equal(verdicts()["hill2.log"], "heard 1 passed 0");
-    assert.deepEqual([...new Set(asked)], ["http://localhost/logs.txt", "http://localhost/hill2.log"]);
+    assert.deepEqual([...new Set(asked)],
+      ["http://localhost/logs.txt", "http://localhost/hill2.log"]);
     assert.equal(aprsbook.alive.refused,
       "logs.txt: no log of this server: https://elsewhere.example/x.log");
     // one that fails, comes and fails again has been away since the last time

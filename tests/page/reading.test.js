@@ -7,7 +7,8 @@ import { tableOf } from "../../page/src/net/table-lines.js";
 import { atOnce } from "../../page/src/util/tasks.js";
 import {
   SETTINGS,
-  COLUMNS, message, messageTable, moment, netOfLines, place, readMessages, row, rowsOf, table, thing,
+  COLUMNS, message, messageTable, moment, netOfLines, place, readMessages, row, rowsOf, table,
+  thing,
 } from "./tables.js";
 
 test("columns are taken by name, also in another order, with more of them, or fewer", () => {
@@ -69,7 +70,8 @@ test("what came of a message is the table's outcome, that of a number for reply-
     message("Q1A", "Q1B", "help{01}", "unnumbered", 0, { number: "01", outcome: "unanswered" }),
     message("Q1A", "Q1B", "again{02}", "unnumbered", 0, { number: "02", reply_ack: "unanswered",
       outcome: "acknowledged", outcome_moment: moment(9) }),
-    message("Q1A", "Q1B", "well", "acknowledged", 0, { answer: moment(4), answer_source: "Q1B" })]));
+    message("Q1A", "Q1B", "well", "acknowledged", 0,
+      { answer: moment(4), answer_source: "Q1B" })]));
   assert.deepEqual([a.state, b.state, c.state], ["unanswered", "acknowledged", "acknowledged"]);
   assert.deepEqual([a.id, b.id, c.id], ["01", "02", ""]);
   assert.deepEqual([b.answered - b.first, c.answered - c.first], [9, 4]);

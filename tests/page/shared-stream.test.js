@@ -166,7 +166,7 @@ test("what is said while a tab asks for what it lacks is taken behind that", asy
   await haveAll([late], "one\ntwo\nthree\n");
   assert.deepEqual([...texts([late]), late.gaps], ["one\ntwo\nthree\n", 0]);
 });
-test("that the server is away is known in all tabs, and one that comes later asks then", async () => {
+test("that the server is away is known in all tabs, and one that comes later asks", async () => {
   const browser = new BrowserStandIn(), server = new ServerStandIn();
   const tabs = [0, 1].map(() => tabOf(browser, server));
   const areAll = isThere => until(() => tabs.every(it => it.isThere === isThere));
@@ -202,7 +202,7 @@ test("an answer that the server cut off is asked on from its end", async () => {
   assert.deepEqual([first.had.length, late.gaps, late.had.length],
     [2 ** 20 + 5, 0, server.text.length]);
 });
-test("a tab that hears nothing of the leading one listens itself, and so does the next", async () => {
+test("a tab that hears nothing of the leading one listens itself, as does the next", async () => {
   const before = { ...patience };
   Object.assign(patience, { first: 10, silent: 10 });
   const browser = new BrowserStandIn(), server = new ServerStandIn();

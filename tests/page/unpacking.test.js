@@ -15,7 +15,8 @@ test("a packed file is unpacked whole, and begins as it does", async () => {
 });
 test("of a file that becomes very large no more is unpacked than is wanted", async () => {
   let asked = 0, isOver = false;
-  const stream = new ReadableStream({ pull: control => control.enqueue(new Uint8Array(64 + asked++)),
+  const pull = control => control.enqueue(new Uint8Array(64 + asked++));
+  const stream = new ReadableStream({ pull,
     cancel() { isOver = true; } }, { highWaterMark: 0 });
   const { head, all } = await beginningOf(stream, 100, 1000);
   assert.deepEqual([head.length, asked], [100, 2]);

@@ -1,6 +1,6 @@
 // A browser's window by jsdom (Debian: node-jsdom), for tests of what is drawn: the page's own
-// shell, a map of 600 by 400 pixels, and a pen that keeps what it was told. `skip` says why there is
-// none. It stands before the modules that draw.
+// shell, a map of 600 by 400 pixels, and a pen that keeps what it was told. It stands before the
+// modules that draw; `skip` says why there is none.
 import "./timers.js";
 import fs from "node:fs";
 import Module, { createRequire } from "node:module";

@@ -1,5 +1,5 @@
 // @ts-check
-// Places and messages as CSV, for spreadsheets.
+// Writes places and messages as CSV, for spreadsheets.
 
 import { decimal, partsOf } from "./places.js";
 import { entriesOf } from "../net/log-entries.js";

@@ -1,5 +1,5 @@
 // @ts-check
-// Places and tracks as GeoJSON (RFC 7946).
+// Writes places and tracks as GeoJSON (RFC 7946).
 
 import { decimal, hasMoved, PART, partsOf } from "./places.js";
 import { said } from "../util/text.js";

@@ -1,5 +1,5 @@
 // @ts-check
-// Places and tracks as GPX.
+// Writes places and tracks as GPX.
 
 import { decimal, hasMoved, markup, nowOf, runsOf } from "./places.js";
 import { said } from "../util/text.js";
