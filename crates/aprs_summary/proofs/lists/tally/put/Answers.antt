@@ -1,4 +1,4 @@
-use Rattle.aprs_summary.proofs.Common.{◌∙◌, Some, Option, ap, sym}
+use Rattle.aprs_summary.proofs.Common.{◌∙◌, Option, ap, sym}
 use Rattle.aprs_summary.specs.StationRows.{with_last}
 use Rattle.aprs_summary.specs.declared.lists.tally.Tally.{Tally}
 use Rattle.aprs_summary.proofs.Stations.{put_again}
