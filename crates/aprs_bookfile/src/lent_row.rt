@@ -61,6 +61,7 @@ impl<'a> LentRow<'a> {
 
     /// Puts the row's line, with its LF, into `out`. At a fault a prefix of what `out` held and of
     /// this line went out. The room is written over; it is kept from row to row. Takes no memory.
+    #[inline(always)]
     pub fn put<W: Write>(
         &self,
         out: &mut Outlet<'_, W>,

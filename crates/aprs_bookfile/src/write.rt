@@ -30,6 +30,7 @@ pub const ROW_TAIL: usize = 675;
 
 /// Puts the line of a row that is packed in bytes, with its LF, into `out`. At a fault a prefix of
 /// what `out` held and of this line went out. The room is written over; it is kept from row to row.
+#[inline(always)]
 pub fn put_row<W: Write>(
     out: &mut Outlet<'_, W>,
     room: &mut WrittenRow,

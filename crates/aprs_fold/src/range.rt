@@ -44,6 +44,7 @@ impl SourceRange {
     }
 
     /// Whether the row's source is within the range.
+    #[inline(always)]
     #[tactic(auto, unfolding(aprs_transmissions::specs::Key::key_of))]
     pub(crate) fn contains_row(&self, row: &RowView<'_>) -> bool
         ensures { result ≡ Spec.is_within self.now (row_key row.now).source }

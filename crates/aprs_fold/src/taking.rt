@@ -69,6 +69,7 @@ fn take<W: Write, A: Allocator + Copy>(
 
 /// Puts the line of the last row into `out`, if there is one and it is within the range. Returns
 /// whether a line was put.
+#[inline(always)]
 pub(crate) fn put_last<W: Write, A: Allocator + Copy>(
     range: &SourceRange,
     last: &OpenLine<A>,
