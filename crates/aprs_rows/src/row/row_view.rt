@@ -50,6 +50,7 @@ impl<'a> Model for RowView<'a> {
 impl<'a> RowView<'a> {
     /// The row of a first moment, of the receivers whose names stand in `receivers` with commas
     /// between, and of this greatest reception. Takes no memory.
+    #[inline(always)]
     pub fn new(first: Moment, receivers: &'a [u8], greatest: ReceptionRef<'a>) -> RowView<'a>
         requires { All IsName (names_in receivers.now) }
         ensures { result ≡ record {

@@ -90,6 +90,7 @@ impl<A: Allocator + Copy> OpenRow<A> {
     /// and that its receivers' names with commas between have fewer than 4,294,967,296 bytes.
     /// `Memory` also where the joined row's names would have more. After `Memory` there may be any
     /// row, or none.
+    #[inline(always)]
     pub fn join(&mut self, gap: Gap, next: &RowView<'_>) -> Result<bool, Memory>
         requires sound { IsSoundRow next.now }
         requires short { IsShort next.now }
@@ -114,6 +115,7 @@ const MOST_NAMES: usize = 4_294_967_295;
 
 /// Puts the one row that a row and the next one are, which have to be near, into `spare`. Writes
 /// over `names`. `Memory` also where its receivers' names would have more than `MOST_NAMES` bytes.
+#[inline(never)]
 fn join_into<A: Allocator + Copy>(
     alloc: A,
     gap: Gap,
