@@ -84,6 +84,7 @@ fn play_above<A: Allocator + Copy>(winners: &mut [usize], streams: &[RowStream<A
 }
 
 /// Plays one match, between the winners of the two before it.
+#[inline(always)]
 fn play<A: Allocator + Copy>(winners: &mut [usize], streams: &[RowStream<A>], number: usize)
     requires each { length winners.old ≡ length streams.now }
     requires within { Spec.AreWithin winners.old (length streams.now) }

@@ -96,7 +96,7 @@ fn is_last_of_ascending(text: &[u8], name: &[u8]) -> Option<bool>
         × (is_last ≡ Spec.is_of_last (Spec.is_same_name name.now) (names_in text.now))) }
 {
     let Some((first, others)) = cut_name(text) else {
-        return if name.cmp(text).is_eq() {
+        return if is_same_name(name, text) {
             Some(true)
         } else {
             None
@@ -104,19 +104,34 @@ fn is_last_of_ascending(text: &[u8], name: &[u8]) -> Option<bool>
     };
     let mut before = first;
     let mut rest = others;
-    let mut has_name = name.cmp(first).is_eq();
+    let mut has_name = is_same_name(name, first);
     while let Some((next, after)) = cut_name(rest) {
         if !before.cmp(next).is_lt() {
             return None;
         }
-        has_name = has_name || name.cmp(next).is_eq();
+        has_name = has_name || is_same_name(name, next);
         before = next;
         rest = after;
     }
-    let is_last = name.cmp(rest).is_eq();
+    let is_last = is_same_name(name, rest);
     if before.cmp(rest).is_lt() && (has_name || is_last) {
         Some(is_last)
     } else {
         None
     }
+}
+
+/// Whether both are the same name. Their last bytes, in which most differ, are looked at first.
+#[inline(always)]
+fn is_same_name(name: &[u8], other: &[u8]) -> bool
+    ensures { result ≡ Spec.is_same_name name.now other.now }
+{
+    let size = name.len();
+    if size != other.len() {
+        return false;
+    }
+    if size > 0 && name[size - 1] != other[size - 1] {
+        return false;
+    }
+    name.cmp(other).is_eq()
 }
