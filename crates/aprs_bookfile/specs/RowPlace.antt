@@ -67,7 +67,7 @@ place_beyond p b = if nat_lt p.size (least_of p.field)
 abbrev pub place_after : Place → ℕ → Option Place
 place_after p b = if is_byte_of p.field b then place_within p else place_beyond p b
 
--- The same, where there may be no place.
+-- The place after one byte more, or none where there was none before or none comes after.
 abbrev pub next_after : Option Place → ℕ → Option Place
 next_after None b = None
 next_after (Some p) b = place_after p b

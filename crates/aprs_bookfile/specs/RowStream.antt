@@ -37,7 +37,7 @@ abbrev pub HoldsTo : {A : Type 0} → RowStream A → List Row → List ℕ → 
 HoldsTo stream rows got =
     (t : List ℕ) × (got ≡ t ++ bytes_left stream.piece) × HasReadTo stream.reader rows t
 
--- So much was got, whatever is kept of the rows.
+-- The text of these rows was got, and bytes that weren't looked at, whatever is kept of the rows.
 abbrev pub HoldsText : {A : Type 0} → RowStream A → List Row → List ℕ → Type 0
 HoldsText stream rows got =
     (t : List ℕ) × (got ≡ t ++ bytes_left stream.piece) × HasReadText stream.reader rows t
@@ -50,7 +50,8 @@ pub record HasGot {R A : Type 0} (remaining : R → Option (List ℕ)) (limit : 
       stream.left
   pub calls : Calls Going first now
 
--- So much was got, whatever is kept of the rows.
+-- Since the input was `first`, the text of these rows was got, which begins with `head`, at most
+-- `limit` bytes, whatever is kept of the rows.
 pub record HasGotText {R A : Type 0} (remaining : R → Option (List ℕ)) (limit : ℕ)
     (head : List ℕ) (first now : Counted R) (stream : RowStream A) (rows : List Row)
     : Type 0 where

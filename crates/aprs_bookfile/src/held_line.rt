@@ -1,4 +1,11 @@
 //! The line that is being read, as far as its bytes decide what it is.
+//!
+//! Words of the contracts here:
+//! - A line is hopeless once it is wrong whatever follows. No further bytes of it are held then.
+//! - `IsHeldOf first held line`: what is held is the line that was read, or a beginning of it after
+//!   which it is hopeless. `first` says whether it is the text's first line.
+//! - `IsLean`: no byte is held after which the line was hopeless already.
+//! - `Decides`: so many of these bytes decide what the line is, and this is the place after them.
 ghost use Rattle.std.specs.Prelude.{◌≡◌, ◌+◌, ◌≤◌, ◌++◌, ℕ, List, [], OnErr, OnOk, IsTrue, ◌↔◌, length};
 ghost use Rattle.aprs_bookfile.specs.HeldLine as Spec;
 

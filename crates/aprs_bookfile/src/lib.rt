@@ -1,4 +1,4 @@
-//! The text of a book: its rows, written as lines and read back.
+//! Book files: the text of a book, whose rows are written as lines and read back.
 #![tactic(auto)]
 
 mod cut;

@@ -1,4 +1,13 @@
 //! Reading the rows of a book.
+//!
+//! Words of the contracts here:
+//! - `book_read`: the rows as a book of the gap that was returned, or the fault.
+//! - `HasGot`: since the input was `first`, the text of these rows was got, `head` among it.
+//! - `IsAnswered`: the answer is that for the text that was got: its book, or a fault that it has.
+//!   The reader was asked no further, and no more was taken than the limit allows, but for one
+//!   byte.
+//! - `StopsAfter`: if memory was refused, there are as many rows as rows' lines before the line
+//!   that the fault names.
 ghost use Rattle.std.specs.Prelude.{◌≡◌, ◌≤◌, ◌+◌, ◌-◌, ◌++◌, ℕ, [], List, length, IfSome, IfOk, IfErr};
 ghost use Rattle.aprs_io.specs.Device.{device_of, failures_of, Rose};
 ghost use Rattle.aprs_io.specs.Input.{most_input};

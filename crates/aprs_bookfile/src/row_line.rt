@@ -1,4 +1,12 @@
 //! A row's line.
+//!
+//! Words of the contracts here:
+//! - A line spells a row if it is `row_line` of it, in this form of moments. `IsBookRow`: a line
+//!   can spell the row, and its frame is a UI frame.
+//! - `IsWrongRow`: the cause is `RowSyntax`, and no row is spelled; or it is `Frame`, and a row is
+//!   spelled but for its frame.
+//! - `SpellsFrame`, `IsWrongFrame`: the digits spell this frame; or no bytes, or no UI frame.
+//! - `IsWritable form m`: the moment is before 2100, and a whole second in the form to the second.
 ghost use Rattle.std.specs.Prelude.{◌≡◌, ◌≢◌, ◌↔◌, ◌<◌, ◌∷◌, ◌++◌, ℕ, List, length, All, IsTrue, IfOk, OnOk, IfErr, IfNone, IfSome};
 ghost use Rattle.aprs_log.specs.Clock.{form_size};
 ghost use Rattle.aprs_log.specs.Receiver.{IsName};

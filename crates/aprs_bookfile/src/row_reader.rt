@@ -1,4 +1,21 @@
 //! A book's text, while it is read line by line.
+//!
+//! Words of the contracts here:
+//! - A line is held as far as it decides what it is. `size_read` counts the rows that were read and
+//!   the bytes that are held; `most_stream` is the most that it may be.
+//! - `HasReadText reader rows text`: the reader has read this text, of which these are the rows,
+//!   whatever it keeps of them. `HasReadTo`: and it keeps those that it is to keep.
+//! - `ReadsOne`: with one line more it has read this text, which gave one row more, or none.
+//! - `IsFault most fault text`: the fault is the text's first one, however the input ends; or
+//!   memory was refused in the line that it names, with at most `most` bytes of the text after what
+//!   was read.
+//! - `StopsHere`: if memory was refused and each row is kept, there are as many as rows' lines
+//!   before the one that the fault names.
+//! - `IsOfText`: no read failed, and the limit wasn't passed. `KeepsVersion`: the header's version
+//!   stays.
+//! - `JudgesKept`: the line is judged so after these rows, and of those after it these are kept.
+//! - `IsAnswerFor answer text ending`: a book, if the text is that of its rows and the input ended
+//!   after it; or a fault that the text has at this ending.
 ghost use Rattle.std.specs.Prelude.{All, ◌≡◌, ◌<◌, ◌+◌, ◌≤◌, ◌++◌, ◌∷◌, ℕ, [], false, List, length, None, Some, OnErr, OnOk, IfErr, IfOk, IfSome, IfNone};
 ghost use Rattle.std.specs.List.{join_with_byte, last_or};
 ghost use Rattle.aprs_transmissions.specs.Row.{Row};
@@ -160,7 +177,8 @@ impl<A: Allocator + Copy> RowReader<A> {
 
     /// Judges the line that is the bytes taken and then `part`. Returns whether it is a row's,
     /// which then is the last row; and then no bytes are held. Fails where the line is wrong, or
-    /// with `Memory` as `BookCause` says it. After a fault bytes may still be held.
+    /// with `Memory` where an allocation failed or a row's names have 4 GiB or more. After a fault
+    /// bytes may still be held.
     pub fn end_line(&mut self, part: &[u8]) -> Result<bool, BookFault>
         requires few { size_read self.old + length part.now ≤ most_stream }
         requires going { Spec.is_done self.old.stage ≡ false }
@@ -337,7 +355,8 @@ fn is_row_between(before: &Stage, after: &Stage) -> bool
 
 /// Judges a whole line at this stage, after so many rows, of which `rows` has those that are kept,
 /// and returns the stage after it. A row of the line is kept too. Fails with the cause for which
-/// the line is wrong, or with `Memory` as `BookCause` says it.
+/// the line is wrong, or with `Memory` where an allocation failed or a row's names have 4 GiB or
+/// more.
 fn judge<A: Allocator + Copy>(
     stage: Stage,
     keeping: Keeping,

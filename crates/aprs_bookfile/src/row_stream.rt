@@ -1,4 +1,20 @@
 //! The rows of a book's text, read one after another.
+//!
+//! Words of the contracts here:
+//! - `HasGot`: since the input was `first`, the text of these rows was got, `head` among it, of at
+//!   most `limit` bytes, and no call answered a fault or the end. `HasGotText`: the same, whatever
+//!   is kept of the rows. `HoldsTo`, `HoldsText` say it of the stream alone.
+//! - `GetsOne`: one row more was got; or they are all, and the input has ended. `StepsTo`: one row
+//!   more or none.
+//! - `IsFaultyAfter`: this fault is the answer for what was read since the input was `first`.
+//! - `StopsFrom`: if memory was refused and each row is kept, the fault names the line after those
+//!   of the rows that are kept.
+//! - `IsAnswered`: the answer is that for the text that was got, and the reader was asked no
+//!   further.
+//! - `front_of` a stream has its row that was read last, or none. `is_ended`: the last line was
+//!   read.
+//! - `stream_size` counts rows that were read, bytes that are held, and bytes that may be read yet.
+//!   `stream_ahead` grows less with each step.
 ghost use Rattle.std.specs.Prelude.{◌≡◌, ◌≢◌, ◌≤◌, ◌<◌, ◌+◌, ◌++◌, ℕ, [], None, Some, List, false, true, length, IfErr, IfOk, IfSome, IfNone, OnOk};
 ghost use Rattle.std.specs.List.{last_or};
 ghost use Rattle.aprs_io.specs.declared.device.Counted.{Counted as CountedValue};
@@ -120,9 +136,10 @@ impl<A: Allocator + Copy> RowStream<A> {
     }
 
     /// Reads on to the next row, or to the end of the book and of the source, and then there is no
-    /// row. Fails with the text's first fault, or with `Memory` as `BookCause` says it. After a
-    /// fault `row` may be any row, or `None`. Requires that the end wasn't reached before, that no
-    /// fault came, and a limit of at most 9,223,372,036,854,775,807.
+    /// row. Fails with the text's first fault, or with `Memory` where an allocation failed or a
+    /// row's names have 4 GiB or more. After a fault `row` may be any row, or `None`. Requires that
+    /// the end wasn't reached before, that no fault came, and a limit of at most
+    /// 9,223,372,036,854,775,807.
     pub fn advance<R: Read>(&mut self, source: &mut Counted<R>) -> Result<(), BookFault>
         requires few { Spec.stream_size self.old ≤ most_stream }
         requires going { Spec.is_ended self.old ≡ false }

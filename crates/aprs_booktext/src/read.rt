@@ -1,4 +1,13 @@
 //! Reading a book.
+//!
+//! Words of the contracts here:
+//! - `ReadsBook`: of the input some bytes were got, at most `limit` with the head, and the answer
+//!   is that for them: a book, or a fault that they have.
+//! - `AcceptsBook`: the text of a book is read, unless it is too long, a read failed (then the
+//!   count `Rose`) or memory was refused.
+//! - `ReadsSeconds`: a text of version 1 gives the book of the same set, counted in milliseconds.
+//! - `Asks`, `Takes`: what the reader answered last, and what was taken of the input.
+//! - `IsAnswered`: all of this but for version 1.
 ghost use Rattle.std.specs.Prelude.{◌≡◌, ◌≤◌, ◌-◌, ◌++◌, length, IfSome, IfOk};
 ghost use Rattle.aprs_io.specs.Device.{device_of, failures_of, Rose};
 ghost use Rattle.aprs_io.specs.Input.{most_input};

@@ -40,12 +40,12 @@ rounded parts = (parts + 9223372036854775808) / 18446744073709551616
 abbrev pub is_settled : ℕ → ℕ → Bool
 is_settled x y = nat_lt (x * y) 39614081257132168796771975168 && rounded (x * y) == rounded (x * y + x + y)
 
--- So it is of x and each power of the table.
+-- The product of x and each power of the table is settled, as `is_settled` says.
 abbrev pub is_settled_by : ℕ → List ℕ → Bool
 is_settled_by x [] = true
 is_settled_by x (y ∷ ys) = is_settled x y && is_settled_by x ys
 
--- So it is of each power of one table and each of the other.
+-- The product of each power of one table and each of the other is settled.
 abbrev pub are_settled : List ℕ → List ℕ → Bool
 are_settled [] ys = true
 are_settled (x ∷ xs) ys = is_settled_by x ys && are_settled xs ys

@@ -34,7 +34,7 @@ IsTaken remaining limit gap old new taken front =
     ⊎ ((front ≡ [])
     × IsAnswered remaining limit [] (Ok (record { gap = gap; rows = taken })) old new)
 
--- So it is of each input.
+-- Of each input these rows were taken, and this one is in front, as `IsTaken` says.
 abbrev pub AreTaken : {R : Type 0} → (R → Option (List ℕ)) → ℕ → ℕ → List (Counted R)
     → List (Counted R) → List (List Row) → List (List Row) → Type 0
 AreTaken remaining limit gap [] [] [] [] = Unit {0}

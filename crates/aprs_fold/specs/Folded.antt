@@ -41,7 +41,7 @@ NearJoins gap = (taken written : List Row) (last x : Row) → IsFolded gap taken
     → is_eq (compare_near gap last x) ≡ true
     → IsFolded gap (taken ++ x ∷ []) written (combine last x ∷ [])
 
--- Otherwise the last one is written, and the next is in its place.
+-- Where the next row isn't near, the last one is written, and the next is in its place.
 abbrev pub FarCloses : ℕ → Type 0
 FarCloses gap = (taken written : List Row) (last x : Row) → IsFolded gap taken written (last ∷ [])
     → is_eq (compare_near gap last x) ≡ false

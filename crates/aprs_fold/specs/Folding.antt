@@ -46,11 +46,13 @@ pub record IsFolding (gap : ℕ) (read front written last : List Row) : Type 0 w
 
 -- ---- laws
 
--- Before the first row.
+-- Before the first row a fold has taken no rows, nothing is final, and there is no last row.
 abbrev pub Begins : ℕ → Type 0
 Begins gap = (front : List Row) → IsFolding gap [] front [] []
 
--- A row in front is taken. None of the rows that are in front after this step comes before it.
+-- A fold goes on by one step: a row in front is taken, and none of the rows that are in front after
+-- it comes before this row. After that it is a fold of this row too, with what is written and the
+-- last row as `TakesNext` says.
 abbrev pub TakesOn : ℕ → Type 0
 TakesOn gap = (read front written last : List Row) (x : Row) (wrote : Bool)
     (all ahead new : List Row) → IsFolding gap read front written last → x ∈ front → IsSoundRow x

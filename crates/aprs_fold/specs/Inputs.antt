@@ -73,7 +73,8 @@ IsOneRefused remaining limit gap number (OtherGap index) old new =
 IsOneRefused remaining limit gap number Memory old new = IsAsked remaining limit old new
 IsOneRefused remaining limit gap number Write old new = ⊥
 
--- So it is with each input.
+-- Each input was asked as `IsAsked` says: at most `limit` bytes were got of it, and it wasn't asked
+-- after its end, nor after a fault.
 abbrev pub AreAsked : {R : Type 0} → (R → Option (List ℕ)) → ℕ → List (Counted R)
     → List (Counted R) → Type 0
 AreAsked remaining limit [] [] = Unit {0}

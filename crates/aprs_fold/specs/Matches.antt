@@ -32,6 +32,7 @@ pub record IsPlayedBut {A : Type 0} (streams : List (RowStream A)) (winners : Li
   pub won : (number : ℕ) → 0 < number → number < length streams
       → IsWon streams winners number ⊎ Open number
 
+-- Each match was played.
 abbrev pub IsPlayed : {A : Type 0} → List (RowStream A) → List ℕ → Type 0
 IsPlayed streams winners = IsPlayedBut streams winners (λ number. ⊥)
 

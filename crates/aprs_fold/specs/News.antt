@@ -31,11 +31,15 @@ LeavesPart contents gap fault old new = (rows : List Row) × (last : List Row) �
 
 -- ---- the same of what was put
 
+-- The lines of rows that are a book's were put; at `Write` a prefix of them and of the last row's
+-- line went out.
 abbrev pub LeavesNews : {W : Type 0} → (W → Option (List ℕ)) → ℕ → FoldFault → Outlet W
     → Outlet W → Type 0
 LeavesNews contents gap fault old new = (rows : List Row) × (last : List Row) × IsWhole gap rows
     × PutsPart contents fault rows last old new
 
+-- The header and the lines of rows that are a book's were put; at `Write` a prefix of these and of
+-- the last row's line went out.
 abbrev pub LeavesNewsText : {W : Type 0} → (W → Option (List ℕ)) → ℕ → FoldFault → Outlet W
     → Outlet W → Type 0
 LeavesNewsText contents gap fault old new = (rows : List Row) × (last : List Row)

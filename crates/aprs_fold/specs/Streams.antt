@@ -19,7 +19,7 @@ pub record IsReading {R A : Type 0} (remaining : R → Option (List ℕ)) (limit
   pub size : stream_size stream ≤ most_stream
   pub gets : GetsOne remaining limit [] first now stream taken
 
--- So it is with each input.
+-- Each input is read as `IsReading` says: these rows were taken of it, and the next is in front.
 abbrev pub AreReading : {R A : Type 0} → (R → Option (List ℕ)) → ℕ → ℕ → List (Counted R)
     → List (Counted R) → List (RowStream A) → List (List Row) → Type 0
 AreReading remaining limit gap [] [] [] [] = Unit {0}

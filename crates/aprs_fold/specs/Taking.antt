@@ -19,7 +19,7 @@ use Rattle.aprs_fold.specs.declared.fault.FoldFault.TheVariants.{Memory, Write}
 abbrev pub lines_of_rows : List Row → List ℕ
 lines_of_rows rows = flat_map line_and_lf rows
 
--- There is a last row where the boolean is true, and none where it is false.
+-- There is one row where the boolean is true, and none where it is false.
 abbrev pub IsThere : Bool → List Row → Type 0
 IsThere true last = (own : Row) × (last ≡ own ∷ [])
 IsThere false last = last ≡ []

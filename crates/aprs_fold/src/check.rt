@@ -1,4 +1,10 @@
 //! Whether several inputs are books that can be folded.
+//!
+//! Words of the contracts here:
+//! - `AreBooks`: each input was read to its end, and is the whole text of a book of this gap. These
+//!   are the books' rows.
+//! - `IsRefused`: the input that the fault names has it as a book file, as far as it was read.
+//! - `AreAsked`: of each input at most `limit` bytes were got, and it wasn't asked after its end.
 ghost use Rattle.std.specs.Prelude.{◌≡◌, ◌≢◌, ◌≤◌, IfErr, List, OnOk};
 ghost use Rattle.aprs_transmissions.specs.Row.{Row};
 ghost use Rattle.aprs_bookfile.specs.RowReader.{most_stream};

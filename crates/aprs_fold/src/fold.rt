@@ -1,4 +1,16 @@
 //! The fold of book files.
+//!
+//! Words of the contracts here:
+//! - `AreBooks`: each input was read to its end, and is the whole text of a book of this gap. These
+//!   are the books' rows.
+//! - `book_of_sources`: the book of all these rows, of which it has those of the range's sources.
+//! - `IsWhole`: the rows are those of a book. `IsFoldedBook`: so are those of the range's sources
+//!   among the rows that were folded. `PutsRows`: the lines of such rows were put, and there are so
+//!   many.
+//! - `IsRefused`: the input that the fault names has it as a book file, as far as it was read.
+//! - `IsLeft`, `LeavesText`, `LeavesRows`: what was written or put before the fold ended early is a
+//!   part of a book's text, of rows of the range that no later row could join.
+//! - `AreAsked`: of each input at most `limit` bytes were got, and it wasn't asked after its end.
 ghost use Rattle.std.specs.Prelude.{◌≡◌, ◌≤◌, [], List, IfErr, IfOk, OnOk};
 ghost use Rattle.aprs_io.specs.Device.{Sends};
 ghost use Rattle.aprs_io.specs.Outlet.{Puts, held_of};

@@ -1,4 +1,15 @@
 //! What of a fold of book files is new to the first of them.
+//!
+//! Words of the contracts here:
+//! - `AreBooks`: each input was read to its end, and is the whole text of a book of this gap. These
+//!   are the books' rows.
+//! - `news_of_sources`: the rows of their book that are of the range's sources, and that the first
+//!   of the books hasn't as they are.
+//! - `IsWhole`, `PutsNews`: the rows are a book's, and so many lines were put.
+//! - `IsRefused`: the input that the fault names has it as a book file, as far as it was read.
+//! - `LeavesPart`, `LeavesNewsText`, `LeavesNews`: what was written or put before the fold ended
+//!   early is a part of a book's text.
+//! - `AreAsked`: of each input at most `limit` bytes were got, and it wasn't asked after its end.
 ghost use Rattle.std.specs.Prelude.{◌≡◌, ◌≤◌, [], IfErr, IfOk, List, OnOk};
 ghost use Rattle.aprs_io.specs.Device.{Sends};
 ghost use Rattle.aprs_io.specs.Outlet.{Puts};

@@ -1,4 +1,15 @@
 //! The streams of several inputs: their first rows, and the next row of one.
+//!
+//! Words of the contracts here:
+//! - `IsReading`: of an input that was `first` these rows were taken, and the next is in front; or
+//!   they are all, and the input has ended. `AreReading` and `AreOpened` say so of each input.
+//! - `IsReadyAt`: the stream of this number hasn't ended. `taken_at`: its row in front is taken
+//!   too.
+//! - `GoesOn`, `OthersStay`, `ChangesAt`: this stream or input alone was read on, and what is in
+//!   front of it then doesn't come before what was.
+//! - `IsOfInputs`: the fault isn't that of a refused output.
+//! - `IsRefused`, `IsOneRefused`: the input that the fault names has it as a book file.
+//! - `AreAsked`: of each input at most `limit` bytes were got, and it wasn't asked after its end.
 ghost use Rattle.std.specs.Prelude.{◌≡◌, ℕ, ◌<◌, ◌≤◌, ◌++◌, ◌∷◌, [], IfErr, IfOk, List, OnOk, length};
 ghost use Rattle.aprs_io.specs.declared.device.Counted.{Counted as CountedValue};
 ghost use Rattle.aprs_transmissions.specs.Row.{Row};

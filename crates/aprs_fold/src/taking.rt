@@ -1,4 +1,15 @@
 //! Rows that are taken in order and written, once no later row can join them.
+//!
+//! Words of the contracts here:
+//! - The last row is still open: later rows may join it. A next row that is near joins it. Any
+//!   other closes it, so that its line is put, and takes its place.
+//! - `Takes`: the next row was taken so. `wrote` says whether the last row's line was put, which is
+//!   only where its source is within the range.
+//! - `HasPut`: the lines of these rows were put. `IsThere`: there is one such row if the boolean is
+//!   true, and none if it is false.
+//! - `FailsPut`: the output was refused, and a prefix of these lines went out. `FailsTaking`: so it
+//!   was of the last row's line, or at `Memory` that line was put, or nothing was.
+//! - `IsFirst`: the stream of this number has a row in front, and no other's comes before it.
 ghost use Rattle.std.specs.Prelude.{◌≡◌, ◌+◌, Some, IfErr, IfOk, OnOk, if◌then◌else◌};
 ghost use Rattle.aprs_transmissions.specs.Gap.{millis_of};
 ghost use Rattle.aprs_transmissions.specs.Row.{Row};

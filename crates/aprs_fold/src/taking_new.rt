@@ -1,4 +1,15 @@
 //! Rows that are taken in order, of which those are written that are new to a known book.
+//!
+//! Words of the contracts here:
+//! - The known row is the one that was taken last of the known book, which is the first input.
+//!   `new_rows known rows` are those of the rows that aren't rows of `known`.
+//! - `PutsNew`: the last row's line was put, if it is within the range and isn't the known row.
+//!   `wrote` says whether it was.
+//! - `TakesNew`: the next row joined the last one, or closed it, so that it was put by `PutsNew`.
+//! - `FailsNew`: at `Memory` the last row was put by `PutsNew`, or nothing was; at `Write` a prefix
+//!   of its line went out.
+//! - `HasPut`: the lines of these rows were put. `FailsPut`: a prefix of them went out, at `Write`.
+//! - `IsThere`: there is one such row if the boolean is true, and none if it is false.
 ghost use Rattle.std.specs.Prelude.{◌≡◌, ◌∷◌, [], Some, IfErr, IfOk, OnOk};
 ghost use Rattle.aprs_transmissions.specs.Gap.{millis_of};
 ghost use Rattle.aprs_transmissions.specs.Row.{Row};

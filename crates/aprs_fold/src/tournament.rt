@@ -1,4 +1,13 @@
 //! Of several streams of rows the one whose row comes first, found in few comparisons.
+//!
+//! Words of the contracts here:
+//! - The streams play in pairs, and the winners again in pairs, up to match 1. A match is won by
+//!   the stream whose row in front doesn't come after the other's.
+//! - `IsPlayed`: each match was won so. `IsPlayedBut`: each, but for those of which this holds.
+//! - `IsAbove`: the matches that come after this number, from the next one to the last.
+//! - `AreWithin`: the winners are numbers of streams. `NotAfter`: the one row doesn't come after
+//!   the other; a row that isn't there comes after all.
+//! - `IsFirst`: the stream of this number has a row in front, and no other's comes before it.
 ghost use Rattle.std.specs.Prelude.{◌≡◌, ◌≢◌, ◌<◌, ◌+◌, ◌⊎◌, ℕ, IfNone, IfOk, IfSome, None, length};
 ghost use Rattle.aprs_fold.specs.Fronts.{row_at, IsFirst, NotAfter};
 ghost use Rattle.aprs_fold.specs.Matches as Spec;

@@ -35,7 +35,7 @@ abbrev pub reply_cmp : Reply → Reply → Ordering
 reply_cmp = then_cmp (on (λ a. a.asked) asked_cmp)
     (then_cmp (on (λ a. a.moment) nat_cmp) (on (λ a. a.is_rejection) bool_cmp))
 
--- What the code asks.
+-- What a `Question` of the code asks, as definitions have it.
 abbrev pub asked_of : Question → AskedAnswer
 asked_of x = record {
   source = x.source;
@@ -44,7 +44,7 @@ asked_of x = record {
   is_reply = x.is_reply;
 }
 
--- The answer of the code.
+-- An `Answer` of the code, as definitions have it.
 abbrev pub reply_of : Answer → Reply
 reply_of x = record {
   asked = asked_of x.question;

@@ -15,11 +15,11 @@ is_bulletin_of test (b ∷ l ∷ n ∷ []) = false
 is_bulletin_of test (b ∷ l ∷ n ∷ mark ∷ rest) =
     b == octet "B" && l == octet "L" && n == octet "N" && test mark
 
--- A bulletin has a digit there.
+-- The addressee is that of a bulletin: BLN and a digit, whatever follows.
 abbrev pub is_bulletin : List ℕ → Bool
 is_bulletin addressee = is_bulletin_of is_digit addressee
 
--- An announcement has a capital there.
+-- The addressee is that of an announcement: BLN and a capital, whatever follows.
 abbrev pub is_announcement : List ℕ → Bool
 is_announcement addressee = is_bulletin_of is_capital addressee
 

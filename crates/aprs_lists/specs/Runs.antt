@@ -80,7 +80,7 @@ pub record AreSent (gap : ℕ) (copies : List Copy) (rs : List Sent) : Type 0 wh
 abbrev pub AreInTime : List Copy → Type 0
 AreInTime copies = (c : Copy) → c ∈ copies → c.first ≤ c.last
 
--- The run of the code.
+-- A `MessageRun` of the code, as definitions have it.
 abbrev pub sent_of : MessageRun → Sent
 sent_of x = record {
   message = message_named x.copy.now.message;

@@ -20,8 +20,8 @@ use Rattle.aprs_lists.specs.Lines.{tabbed_line}
 use Rattle.aprs_lists.specs.declared.told.MessageLine.{MessageLine}
 
 -- What the table tells of a message: what came of its id by acks and rejs, and when; from when to
--- when it was sent; what came of its number by reply-acks; the gate of its first copy; and what came
--- of its number by any answer, and when.
+-- when it was sent; what came of its number by reply-acks; the gate of its first copy; and what
+-- came of its number by any answer, and when.
 pub record Told : Type 0 where
   pub message : Message
   pub state : MessageState
@@ -33,7 +33,7 @@ pub record Told : Type 0 where
   pub outcome : MessageState
   pub settled : Option ℕ
 
--- The line of the code.
+-- What a `MessageLine` of the code tells, as definitions have it.
 abbrev pub told_of : MessageLine → Told
 told_of x = record {
   message = record {
@@ -129,7 +129,7 @@ listed_outcome Unanswered reply_ack = Unanswered
 listed_outcome Acknowledged reply_ack = Acknowledged
 listed_outcome Rejected reply_ack = Rejected
 
--- When that came.
+-- When a message of the listing was answered: by an answer to its id, or else by a reply-ack.
 abbrev pub listed_settled : Option ℕ → ReplyAck → Option ℕ
 listed_settled (Some answered) reply_ack = Some answered
 listed_settled None NotAwaited = None
@@ -166,7 +166,7 @@ abbrev pub state_by_answer : Option Reply → MessageState
 state_by_answer None = Unanswered
 state_by_answer (Some a) = if a.is_rejection then Rejected else Acknowledged
 
--- The same of an id or a number, where there is one.
+-- What came of an id or a number, by its answer. Without one it is unnumbered.
 abbrev pub state_with : Option (List ℕ) → Option Reply → MessageState
 state_with None answer = Unnumbered
 state_with (Some number) answer = state_by_answer answer
@@ -253,19 +253,23 @@ least_reply gap r number call is_reply = record {
   is_rejection = false;
 }
 
+-- The first answer to this number from this station, as it is found among answers in order.
 abbrev pub found_by : ℕ → List Reply → Sent → Bool → Option (List ℕ) → Option Call → Option Reply
 found_by gap replies r is_reply (Some number) (Some call) =
     first_in_time (least_reply gap r number call is_reply) r.until replies
 found_by gap replies r is_reply (Some number) None = None
 found_by gap replies r is_reply None call = None
 
+-- The first answer to a run's message, by a reply-ack or not, as it is found so.
 abbrev pub answer_found : ℕ → List Reply → Sent → Bool → Option Reply
 answer_found gap replies r is_reply = found_by gap replies r is_reply
     (message_number r.message) (spelled_call r.message.addressee)
 
+-- What the table tells of a run, by the answers that are found so.
 abbrev pub told_found : ℕ → List Reply → Sent → Told
 told_found gap replies r =
     sent_told r (answer_found gap replies r false) (answer_found gap replies r true)
 
+-- The line of a run, by the answers that are found so.
 abbrev pub found_line : ℕ → List Reply → Sent → List ℕ
 found_line gap replies r = told_message_line (told_found gap replies r)

@@ -1,5 +1,6 @@
-//! The texts of what is last known in a book. They are its listing, which has stations, objects,
-//! items and messages, and a table of each; and the messages of a net, each with its first answer.
+//! The listing of a book, and the tables of its messages, stations, objects and items. They are the
+//! texts of what is last known. There is also a table of a net's messages, each with its first
+//! answer.
 #![tactic(auto)]
 
 mod activity;

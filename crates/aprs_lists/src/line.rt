@@ -22,7 +22,8 @@ pub fn put_line<W: Write>(
     put_long_line(out, first, second, third, &[])
 }
 
-/// Puts a line of one more list of fields.
+/// Puts a line of a first field and three lists of fields, in their order, with a tab between two
+/// fields, and LF. Fails where the output is refused.
 pub fn put_long_line<W: Write>(
     out: &mut Outlet<'_, W>,
     first: &Cell<'_>,

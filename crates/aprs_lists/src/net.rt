@@ -1,4 +1,10 @@
 //! The table of the messages of a net: each time that one was sent.
+//!
+//! Words of the contracts here:
+//! - A run is a message as it was sent once, with its copies that lie near to each other.
+//! - `reply_of`: an answer as contracts see it; `reply_cmp`: the order of answers.
+//! - `found_line`, `told_found`, `answer_found`: a run's line, what it tells, and the first answer
+//!   to it, as they are found among answers in order.
 ghost use Rattle.std.specs.Prelude.{◌≡◌, ◌-◌, ℕ, Bool, List, [], map};
 ghost use Rattle.std.specs.List.{flat_map};
 ghost use Rattle.std.specs.Option.{option_copied, option_map};

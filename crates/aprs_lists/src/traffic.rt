@@ -1,4 +1,13 @@
 //! Copies of messages, and answers to them, among the rows of a book.
+//!
+//! Words of the contracts here:
+//! - `GivesCopy row copy`: the row says this message, from its first to its last moment.
+//!   `GivesNetReply`: it is this answer, at its first moment.
+//! - `AreGiven Gives rows list`: the list has exactly what the rows give. `IsGathered`: so it is of
+//!   copies and of answers.
+//! - `HoldsOnly P option`: P holds of what the option has, and of nothing else.
+//! - `copy_of`, `reply_of`: copy and answer as contracts see them; `copy_cmp`, `reply_cmp`: their
+//!   order.
 ghost use Rattle.std.specs.Prelude.{◌≡◌, ◌↔◌, ◌⊎◌, List, Some, IfOk, OnOk, map};
 ghost use Rattle.std.specs.Option.{option_map};
 ghost use Rattle.std.specs.Ordering.{on};

@@ -1,4 +1,12 @@
 //! A reader of the rows of a range of sources in a book file.
+//!
+//! Words of the contracts here:
+//! - The text that is lent is a book's: the header, the lines of the range's rows, and a last line.
+//! - `left_of range bytes`: what is yet to be lent, if these are the file's bytes. `lent`: the
+//!   same, where they are known.
+//! - `LendsRange`: if the file's bytes are the text of a book, what is lent is that of its rows
+//!   whose sources are within the range.
+//! - `EndsWithLast`: the bytes end with the last line of a book's text, after an LF.
 ghost use Rattle.std.specs.Prelude.{◌≡◌, ◌≤◌, ◌<◌, ◌++◌, ℕ, false, List, length, take, Some, IfErr, IfOk, OnErr, OnOk};
 ghost use Rattle.std.specs.Io.{ReadsAtMost};
 ghost use Rattle.aprs_bookfile.specs.RowLines.{ended_by_lf};
@@ -133,7 +141,8 @@ impl<R: ReadAt> BookRange<R> {
         Ok(count)
     }
 
-    /// Takes the last line in hand, where all rows' lines were lent.
+    /// Takes the last line in hand, where all rows' lines were lent. What is yet to be lent stays
+    /// the same.
     fn end_lines(&mut self)
         requires given { length self.old.line.items ≤ self.old.given }
         requires more { self.old.is_last ≡ false }

@@ -1,4 +1,17 @@
 //! Where the rows of a range of sources stand in a book file.
+//!
+//! Rows ascend by source, so that those before a source come first. `before` is such a source. A
+//! row comes before it where its own source does, and any row does where there is no such source.
+//!
+//! Words of the contracts here:
+//! - `R.bytes` are the file's bytes, where they are known.
+//! - `CutsRows test bytes start at`: if a book's rows stand from `start` on, those up to `at` have
+//!   sources that pass the test, and those from there on don't.
+//! - `IsLow`: the place is `start`, or right after the line of a row that comes before `before`.
+//! - `HasStretch`: if the bytes are a book's text, the stretch has the lines of the range's rows.
+//! - `EndsWithLast`: the bytes end with the last line of a book's text.
+//! - `BeginsLine`, `ReadsLine`: a line begins at this place; it is this line, and ends at that
+//!   place.
 ghost use Rattle.std.specs.Prelude.{◌≡◌, ◌<◌, ℕ, List, length, Some, IfSome, not};
 ghost use Rattle.aprs_fold.specs.Range.{is_from, is_until};
 ghost use Rattle.aprs_fold.specs.Cuts.{BeginsLine, CutsRows, HasStretch, IsLow};
@@ -25,8 +38,7 @@ pub struct Stretch {
     pub until: u64,
 }
 
-/// Where a bisection looks for the first line that is no row's whose source comes before a given
-/// one.
+/// Where a bisection looks for the end of the rows that come before a given source.
 #[derive(Clone, Copy)]
 struct Bounds {
     /// A line begins at this place. All rows before it have sources that come before the given one.
@@ -79,9 +91,9 @@ fn find_in<R: ReadAt, A: Allocator>(
     })
 }
 
-/// In a book file the place of the first line, from that at `start` on, that is no row's whose
-/// source comes before `first`. Where there is no `first`, it is `start`. `None` as from
-/// `find_cut`.
+/// The place in a book file where the rows that come before `first` end. The first of them stands
+/// at `start`, if there is one. Without `first` no row comes before it, and the place is `start`.
+/// `None` as from `find_cut`.
 fn find_first<R: ReadAt, A: Allocator>(
     source: &mut R,
     line: &mut Vec<u8, A>,
@@ -99,10 +111,9 @@ fn find_first<R: ReadAt, A: Allocator>(
     }
 }
 
-/// In a book file the place of the first line, from that at `start` on, that is no row's whose
-/// source comes before `before`. Where there is no `before`, it is the first that is no row's. The
-/// bisection begins with the lines up to the place `end`. `None` as from `bisect`, and where the
-/// line that it finds can't be read or judged, or is still such a row's.
+/// The place in a book file where the rows that come before `before` end. The first of them stands
+/// at `start`, if there is one. The bisection looks no further than `end`. `None` as from `bisect`,
+/// and where the line that it finds can't be read or judged, or is still such a row's.
 fn find_cut<R: ReadAt, A: Allocator>(
     source: &mut R,
     line: &mut Vec<u8, A>,
@@ -122,10 +133,9 @@ fn find_cut<R: ReadAt, A: Allocator>(
     Some(low)
 }
 
-/// The place of a line that is at `start` or follows a line of a row whose source comes before
-/// `before`. Where there is no `before`, any row's line will do. In a book file it is the first
-/// line from `start` on that isn't of such a row. `None` where `read_line` or `is_before` gives
-/// that for a line on the way.
+/// The place `start`, or one right after the line of a row that comes before `before`. In a book
+/// file it is where such rows end. `None` where `read_line` or `is_before` gives that for a line on
+/// the way.
 fn bisect<R: ReadAt, A: Allocator>(
     source: &mut R,
     line: &mut Vec<u8, A>,

@@ -1,4 +1,10 @@
 //! Answers to messages.
+//!
+//! Words of the contracts here:
+//! - `reply_of`: an answer as contracts see it; `reply_cmp`: their order, by what they are for,
+//!   then moment, an acknowledgement before a rejection.
+//! - `IsFirstAnswer`: the first of the answers for this in that time, or none. `first_in_time`: the
+//!   same, as it is found among answers in order.
 ghost use Rattle.std.specs.Prelude.{◌≡◌, map, false};
 ghost use Rattle.std.specs.Option.{option_copied, option_map};
 ghost use Rattle.std.specs.Ordering.{is_eq, on};

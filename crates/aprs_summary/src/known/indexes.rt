@@ -1,4 +1,10 @@
 //! What is last known of each station, object and item.
+//!
+//! Words of the contracts here:
+//! - `known_at bytes index`: the reception that the index knows at these bytes, or none.
+//! - `SameKnown`: of everything the same is known. `NotesReport`: of the subject the greater of
+//!   what was known and the new one is known, and of all else the same.
+//! - `HaveEntries`: the subject's index has an entry for it, which may be empty.
 ghost use Rattle.std.specs.Prelude.{◌≡◌, [], IsOk, OnOk, OnErr};
 ghost use Rattle.std.specs.Option.{option_copied, option_map};
 ghost use Rattle.aprs_summary.specs.Known as Spec;

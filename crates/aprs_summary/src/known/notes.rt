@@ -1,4 +1,9 @@
 //! What rows report, taken one after another.
+//!
+//! Words of the contracts here:
+//! - `AreNotesOf rows`: whatever these rows report on, its greatest reception is noted.
+//! - `AreIndexesOf rows`: the indexes have of each station, object and item its greatest report.
+//! - `SameKnown`: of everything the same is known. `known_at`: what an index knows at these bytes.
 ghost use Rattle.std.specs.Prelude.{◌≡◌, ℕ, List, [], ◌∷◌, ◌++◌, IfOk, OnOk, OnErr};
 ghost use Rattle.aprs_transmissions.specs.Row.{Row, row_key};
 ghost use Rattle.aprs_summary.specs.Known as Spec;

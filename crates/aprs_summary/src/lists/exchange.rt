@@ -1,4 +1,10 @@
 //! Messages and their answers, of rows that are taken one after another.
+//!
+//! Words of the contracts here:
+//! - `IsExchangeOf rows`: there is one span for each message of the rows, and one greatest
+//!   reception for each of their answers. `AreSpans` and `AreAnswers` say it of either.
+//! - `message_in key`: the message that frames of this key report. `GivesAnswer`: they give this
+//!   answer, as an ack or rej, or by a reply-ack.
 ghost use Rattle.std.specs.Prelude.{◌≡◌, ◌↔◌, List, [], ◌∷◌, ◌++◌, Some, OnOk};
 ghost use Rattle.aprs_transmissions.specs.Key.{key_of};
 ghost use Rattle.aprs_transmissions.specs.Row.{Row, row_key, last_moment};

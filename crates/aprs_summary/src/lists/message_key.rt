@@ -1,4 +1,11 @@
 //! What makes messages one, and what answers them.
+//!
+//! Words of the contracts here:
+//! - An answer names whose message is answered, who answers, the id or number, and whether it is a
+//!   reply-ack.
+//! - `IsOfAnswer`: frames of this key are an ack or rej that gives this answer. `GivesReply`: this
+//!   message gives it by a reply-ack.
+//! - `HoldsOnly P option`: P holds of what the option has, and of nothing else.
 ghost use Rattle.std.specs.Prelude.{◌≡◌, ◌↔◌, Some};
 ghost use Rattle.std.specs.Option.{option_map};
 ghost use Rattle.aprs_transmissions.specs.Key.{key_of};

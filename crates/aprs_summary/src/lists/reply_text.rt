@@ -1,4 +1,12 @@
 //! The numbers of reply-acks in a text (APRS 1.1).
+//!
+//! Words of the contracts here:
+//! - `HoldsOnly P option`: P holds of what the option has, and of nothing else.
+//! - `IsNumberedText number acknowledged text`: the text ends with `{number}` and then
+//!   `acknowledged`, which may be empty. `IsReplyAckText`: the text acknowledges this number so, or
+//!   as an ack.
+//! - `EndsAfter`, `EndsSo`: the bytes are some, a mark, and at most two letters or digits, or just
+//!   so many.
 ghost use Rattle.std.specs.Prelude.{◌≡◌, ◌<◌, ℕ, List, false};
 ghost use Rattle.std.specs.Option.{option_map};
 ghost use Rattle.std.specs.List.{list_all};

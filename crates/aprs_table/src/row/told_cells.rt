@@ -135,7 +135,7 @@ fn frequency_cells<'a>(x: Frequency<'a>) -> [Cell<'a>; 3]
     ]
 }
 
-/// The fields of what is said.
+/// The fields of what a frame says: the message of a Mic-E position, and the text.
 fn text_cells<'a>(told: &Told<'a>) -> [Cell<'a>; 2]
     ensures { map Cells.cell_text result ≡ Cells.text_cells (told_view told.now) }
 {
@@ -201,7 +201,8 @@ fn put_name<W: Write>(out: &mut Outlet<'_, W>, told: &Told<'_>) -> Result<(), Wr
     put_cells(out, &name_cells(told))
 }
 
-/// Puts the fields of what is said, each after a tab. Fails where the output is refused.
+/// Puts the fields of what a frame says, the message of a Mic-E position and the text, each after a
+/// tab. Fails where the output is refused.
 fn put_text<W: Write>(out: &mut Outlet<'_, W>, told: &Told<'_>) -> Result<(), WriteFault>
     ensures { Puts W.contents result out.old out.new
         (flat_map Spec.after_tab (Cells.text_cells (told_view told.now))) }
