@@ -66,7 +66,7 @@ impl<R: ReadAt> BookRange<R> {
 
     /// The book file. Takes no memory.
     pub fn into_source(self) -> R
-        ensures { result ≡ Spec.source_of self }
+        ensures { result ≡ Spec.device_of self }
     {
         self.source
     }
