@@ -31,9 +31,9 @@ abbrev pub left_of : {R : Type 0} → BookRange R → List ℕ → List ℕ
 left_of range bytes = drop range.given range.line.items
     ++ after_line range.is_last range.rows range.at range.end bytes
 
--- The source of the bytes.
-abbrev pub device_of : {R : Type 0} → BookRange R → R
-device_of range = range.source
+-- What the bytes are lent from.
+abbrev pub lent_from : {R : Type 0} → BookRange R → R
+lent_from range = range.source
 
 -- What is yet to be lent, where the source's bytes are known.
 abbrev pub lent : {R : Type 0} → (R → Option (List ℕ)) → BookRange R → Option (List ℕ)

@@ -66,7 +66,7 @@ impl<R: ReadAt> BookRange<R> {
 
     /// The book file. Takes no memory.
     pub fn into_source(self) -> R
-        ensures { result ≡ Spec.device_of self }
+        ensures { result ≡ Spec.lent_from self }
     {
         self.source
     }
