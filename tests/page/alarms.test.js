@@ -57,9 +57,11 @@ test("where no clock is known to be right, or none is wrong, ages count to the l
   assert.equal(allOfLines([place(7, "Q1A", 54, -3)]).end, seconds(7));
 });
 test("an emergency that a fast clock alone heard has the hour of the others", () => {
-  const net = netOfLines([...fastClock(), micE(3700, "Q1SOS", "emergency", { receivers: "FAST" })]);
-  assert.equal(needsOf(net.things, known())[0].text,
-    "EMERGENCY: Q1SOS, 18:01:40 (19:01:40 by FAST)");
+  const net = netOfLines([...fastClock(), micE(3700, "Q1SOS", "emergency", { receivers: "FAST" }),
+    micE(120, "Q1NEW", "emergency", { receivers: "A" })]);
+  // and stands by that hour among others
+  assert.deepEqual(needsOf(net.things, known()).map(it => it.text),
+    ["EMERGENCY: Q1NEW, 18:02:00", "EMERGENCY: Q1SOS, 18:01:40 (19:01:40 by FAST)"]);
 });
 
 test("EMERGENCY as a word of a comment or a status counts, and is over where it is gone", () => {

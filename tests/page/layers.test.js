@@ -223,13 +223,16 @@ test("a track fades, has arrows on its way, and is pale beside one that is picke
   assert.equal(pen.globalAlpha, 1);
 });
 test("of very many places each track is drawn, thin ones in short paths", () => {
-  const lines = Array.from({ length: MANY + 2 }, (_, k) =>
-    place(k, `Q${k % 99}`, 54.5 + k / 1e6, -3.5));
-  const marks = marksOf(lines), { calls } = told(() =>
+  const at = (k, name) => place(k, name, 54.5 + k / 1e6, -3.5);
+  // the last one has few places, which are left behind those of others
+  const marks = marksOf([...Array.from({ length: MANY + 2 }, (_, k) => at(k, `Q${k % 99}`)),
+    ...[0, 9000].map(k => at(k, "Q99"))]);
+  assert.equal(marks.at(-1).thing.name, "Q99");
+  const { calls } = told(() =>
     new Tracks(pen, viewOf(), { until: Infinity, isAnyPicked: false }).paint(marks));
   const ops = calls.map(it => it.op).filter(it => /^(beginPath|lineTo|stroke)$/.test(it)).join(" ");
   // no path that has lines is left without its stroke
-  assert.doesNotMatch(ops, /lineTo beginPath/);
+  assert.doesNotMatch(ops, /lineTo(?: beginPath|$)/);
   const strokes = calls.filter(it => it.op === "stroke");
   assert.ok(strokes.length > marks.length / 2, `${strokes.length} of ${marks.length}`);
   assert.ok(strokes.every(it => it.lineWidth === 1 && it.globalAlpha === 0.4));

@@ -46,7 +46,7 @@ export function needsOf(things, { settings, markOf }) {
   const waits = (/** @type {Thing} */ it) => Number(it.urgent !== "" && !dealt(it));
   urgent.sort((a, b) => waits(b) - waits(a) ||
     Number(Boolean(b.urgent)) - Number(Boolean(a.urgent)) || weight(b) - weight(a) ||
-    b.last - a.last);
+    b.rows.heardAt(b.lastUrgent) - a.rows.heardAt(a.lastUrgent));
   for (const it of urgent) {
     const at = momentOfNeed(it, settings), mark = dealt(it), name = settings.names.shown(it.name);
     const level = weight(it) === 2 ? "emergency" : "priority";
