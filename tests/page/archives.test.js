@@ -10,7 +10,7 @@ import { boxAround, carriedIn, nearIn } from "../../page/src/intake/embedded-til
 import { patience, ServedFile } from "../../page/src/intake/served-tiles.js";
 import { openMbtiles } from "../../page/src/formats/mbtiles.js";
 import { entriesOf, numberOf, openPmtiles } from "../../page/src/formats/pmtiles.js";
-import { openSqlite, valuesOf } from "../../page/src/formats/sqlite.js";
+import { openSqlite, valuesOf, varint } from "../../page/src/formats/sqlite.js";
 import { vectorOf } from "../../page/src/geo/sphere.js";
 import { TileSources } from "../../page/src/map/layers/tile-sources.js";
 import { tilesOf } from "../../page/src/map/layers/tile-layer.js";
@@ -85,6 +85,12 @@ test("directories are read as they are written", () => {
   assert.deepEqual([entriesOf(directory(small)), directory(small).length], [small, 5]);
   for (let cut = 0; cut < directory(entries).length; cut++)
     assert.throws(() => entriesOf(directory(entries).subarray(0, cut)), /cut short/);
+});
+test("a number of a database has seven bits of each byte, and of a ninth one eight", () => {
+  const numbers = [[[5], 5], [[0x7f], 127], [[0x81, 0], 128], [[0x80, 1], 1],
+    [[0x81, 0x80, 0], 16384], [[...Array(8).fill(0x80), 0xff], 255]];
+  for (const [bytes, number] of numbers)
+    assert.deepEqual(varint(Uint8Array.from([9, ...bytes, 9]), 1), [number, 1 + bytes.length]);
 });
 test("a record of a database has as many values as its head says", () => {
   // a head of five bytes: a small number, nothing, two letters and 1
