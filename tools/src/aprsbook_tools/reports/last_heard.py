@@ -1,7 +1,7 @@
 """Who was heard, of the rows of a book: also who never sent a position or a status.
 
-The table `stations`, which is shorter, doesn't say by whom each was heard last, who was heard through
-a gate alone, and of which rows it is known that a receiver's clock is wrong.
+The table `stations`, which is shorter, doesn't say by whom each was heard last, who was heard
+through a gate alone, and of which rows it is known that a receiver's clock is wrong.
 """
 import argparse
 import collections
