@@ -184,15 +184,20 @@ def kit() -> str:
 
 
 def said_by(crate: str) -> str:
-    """A checksum over all that a proof of this crate can know but for bodies: its definitions and proofs,
-    the definitions of those below, and the clauses of all. No proof rests on an example."""
+    """A checksum over all that a proof of this crate can know but for bodies: its definitions, proofs and
+    clauses, and the definitions of those below and the clauses that they show. No proof rests on an
+    example."""
     def clauses(text: bytes) -> bytes:
         return crates.without_comments(wrong_bodies.without_bodies(text))
+
+    def of_others(text: bytes) -> bytes:
+        return crates.without_comments(wrong_bodies.seen_from_outside(text))
 
     plain, lower = crates.without_comments, crates.below(crate)
     own = crates.sum_of([crate], plain, ["specs", "proofs"], EXAMPLES)
     definitions = crates.sum_of(lower, plain, ["specs"], EXAMPLES)
-    return f"{own} {definitions} {crates.sum_of([*lower, crate], clauses, ['src'], EXAMPLES)}"
+    others = crates.sum_of(lower, of_others, ["src"], EXAMPLES)
+    return f"{own} {definitions} {others} {crates.sum_of([crate], clauses, ['src'], EXAMPLES)}"
 
 
 class Verdicts:

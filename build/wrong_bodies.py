@@ -5,7 +5,7 @@ can share one check. build/edits.py tries them. Nothing is run here.
 import pathlib
 import re
 from typing import (
-    Dict, FrozenSet, Iterable, Iterator, List, Mapping, NamedTuple, Optional, Sequence,
+    Callable, Dict, FrozenSet, Iterable, Iterator, List, Mapping, NamedTuple, Optional, Sequence,
 )
 
 import rattle_text
@@ -15,6 +15,8 @@ FUNCTION = re.compile(
 )
 
 
+# what is said of a function to the compiler or the prover alone
+TO_TOOLS = re.compile(rb"^ *#\[(?:inline|cold|tactic)\b.*\n", re.M)
 CONSTANT = re.compile(r"^ *(?:pub(?:\([a-z ]+\))? )?(?:const|static) (\w+):", re.M)
 
 
@@ -71,13 +73,32 @@ def functions_of(file: str, text: str) -> List[Function]:
 
 
 def without_bodies(source: bytes) -> bytes:
-    """A source file without the bodies of its functions, of which other crates know the clauses alone."""
+    """A source file without the bodies of its functions, of which all others know the clauses alone."""
+    return kept_of(source, lambda head, code: True)
+
+
+def seen_from_outside(source: bytes) -> bytes:
+    """A source file as other crates know it: without the bodies of its functions, without the functions
+    that no other crate can call, and without what is said to the compiler or the prover alone."""
+    return TO_TOOLS.sub(b"", kept_of(source, is_callable))
+
+
+def is_callable(head: "re.Match[str]", code: str) -> bool:
+    """Whether other crates may call the function that begins here: it is public, or of a trait."""
+    held = [it for it in rattle_text.blocks(code) if it[0] < head.start() < it[1]]
+    is_of_trait = bool(held) and (held[-1][3] == "trait" or bool(held[-1][4]))
+    return is_of_trait or head.group().lstrip().startswith("pub ")
+
+
+def kept_of(source: bytes, is_kept: Callable[["re.Match[str]", str], bool]) -> bytes:
+    """A source file without the bodies of its functions, and of those that are kept alone what stands before
+    a body."""
     text = source.decode("utf-8")
     code, kept, end = rattle_text.masked(text), "", 0
     for head in FUNCTION.finditer(code):
         _, at = rattle_text.clauses_after(text, code, head.end())
         if at >= end and at < len(code) and code[at] == "{":
-            kept += text[end:at]
+            kept += text[end:at] if is_kept(head, code) else text[end:head.start()]
             end = rattle_text.closing(code, at) + 1
     return (kept + text[end:]).encode("utf-8")
 

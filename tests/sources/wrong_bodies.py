@@ -81,6 +81,23 @@ class Edits(unittest.TestCase):
             self.assertNotEqual(SOURCE.replace(old, new), SOURCE)
             self.assertNotEqual(known(SOURCE.replace(old, new)), known(SOURCE))
 
+    def test_what_no_other_crate_can_call(self) -> None:
+        def seen(text: str) -> bytes:
+            return wrong_bodies.seen_from_outside(text.encode())
+
+        hidden = SOURCE.replace("fn entry(at: usize) -> u8 {", "fn entry(at: u8) -> u8 {")
+        self.assertEqual(seen(hidden), seen(SOURCE))
+        within = SOURCE.replace("    fn first(", "    pub(crate) fn first(")
+        self.assertEqual(seen(within), seen(SOURCE))
+        told = SOURCE.replace("fn is_long", "#[inline(always)]\nfn is_long")
+        self.assertEqual(seen(told), seen(SOURCE))
+        public = SOURCE.replace("    fn first(", "    pub fn first(")
+        self.assertNotEqual(seen(public), seen(SOURCE))
+        self.assertNotEqual(seen(public.replace("-> u8", "-> u16")), seen(public))
+        of_trait = SOURCE.replace("impl Held {", "impl Read for Held {")
+        self.assertNotEqual(seen(of_trait.replace("-> u8", "-> u16")), seen(of_trait))
+        self.assertNotEqual(seen(SOURCE.replace("usize = 8", "usize = 9")), seen(SOURCE))
+
     def test_a_body_is_its_function(self) -> None:
         self.assertEqual(self.changed("count > TWICE", "count < TWICE"), {"is_long"})
 

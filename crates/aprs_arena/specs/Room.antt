@@ -20,4 +20,5 @@ units_for n = div_ceil n 16
 
 -- the right to give the block for a τ at p back: its room is that of whole units again
 abbrev pub to_give_back : Ty → Ptr → Fml
-to_give_back τ p = fex (size τ < 2 ^ 63) (λ _. fwand (room_for τ p) (units_at (units_for (size τ)) p))
+to_give_back τ p = fex (size τ < 2 ^ 63)
+    (λ _. fwand (room_for τ p) (units_at (units_for (size τ)) p))

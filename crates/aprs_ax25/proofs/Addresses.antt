@@ -6,9 +6,9 @@ use Rattle.std.proofs.lemmas.List.{length-take-le, length-map, length-append, le
 use Rattle.std.proofs.lemmas.List.Folds.{list_all-append}
 use Rattle.std.proofs.lemmas.Bool.{and_parts, and_from, lt-ltb, eqb-true, ne_eqb}
 use Rattle.aprs_ax25.specs.Callsign.{is_callsign_byte}
-use Rattle.aprs_ax25.specs.Address.{Address, IsAddress, letters_and_spaces, address_octets}
-use Rattle.aprs_ax25.specs.FrameFault.{ends_field, letters_len, is_no_letter, is_space_octet, has_callsign, address_of}
-use Rattle.aprs_ax25.proofs.Calls.{call_of-IsCall, letters_len-le}
+use Rattle.aprs_ax25.specs.Address.{Address, IsAddress, characters_and_spaces, address_octets}
+use Rattle.aprs_ax25.specs.FrameFault.{ends_field, characters_len, ends_characters, is_space_octet, has_callsign, address_of}
+use Rattle.aprs_ax25.proofs.Calls.{call_of-IsCall, characters_len-le}
 
 abbrev pub double : List ℕ → List ℕ
 double = map (λ b. 2 * b)
@@ -49,21 +49,21 @@ double-half (o ∷ os) h =
     ap (λ x. x ∷ double (half os)) (even o p.0) ∙ ap (λ l. o ∷ l) (double-half os p.1)
 
 -- no letter is among spaces
-letters_before_spaces : (k : ℕ) → position_or_len is_no_letter (double (replicate k 32)) ≡ 0
-letters_before_spaces zero = refl
-letters_before_spaces (suc k) = refl
+characters_before_spaces : (k : ℕ) → position_or_len ends_characters (double (replicate k 32)) ≡ 0
+characters_before_spaces zero = refl
+characters_before_spaces (suc k) = refl
 
-letters_end : (letters : List ℕ) (k : ℕ) → list_all is_callsign_byte letters ≡ true
-    → position_or_len is_no_letter (double letters ++ double (replicate k 32)) ≡ length letters
-letters_end [] k h = letters_before_spaces k
-letters_end (b ∷ letters) k h =
+characters_end : (characters : List ℕ) (k : ℕ) → list_all is_callsign_byte characters ≡ true
+    → position_or_len ends_characters (double characters ++ double (replicate k 32)) ≡ length characters
+characters_end [] k h = characters_before_spaces k
+characters_end (b ∷ characters) k h =
     let p = and_parts _ _ h in
     let e : (2 * b) / 2 ≡ b = omega arith in
     ap (λ x. cond (not (not (is_callsign_byte x)))
-    (1 + position_or_len is_no_letter (double letters ++ double (replicate k 32))) 0) e
+    (1 + position_or_len ends_characters (double characters ++ double (replicate k 32))) 0) e
     ∙ ap (λ t. cond (not (not t))
-    (1 + position_or_len is_no_letter (double letters ++ double (replicate k 32))) 0) p.0
-    ∙ ap (λ n. 1 + n) (letters_end letters k p.1) ∙ omega arith
+    (1 + position_or_len ends_characters (double characters ++ double (replicate k 32))) 0) p.0
+    ∙ ap (λ n. 1 + n) (characters_end characters k p.1) ∙ omega arith
 
 spaces_all : (k : ℕ) → list_all is_space_octet (double (replicate k 32)) ≡ true
 spaces_all zero = refl
@@ -80,11 +80,11 @@ spaces-are (o ∷ os) h e =
     let is : o ≡ 64 = omega arith in
     ap (λ x. x ∷ os) is ∙ ap (λ l. 64 ∷ l) (spaces-are os p.1 q.1)
 
-length-padded : (letters : List ℕ) → length letters ≤ 6 → length (double (letters_and_spaces letters)) ≡ 6
-length-padded letters h =
-    length-map (letters_and_spaces letters) (λ b. 2 * b)
-    ∙ length-append letters (replicate (6 - length letters) 32)
-    ∙ ap (λ n. length letters + n) (length-replicate (6 - length letters) 32)
+length-padded : (characters : List ℕ) → length characters ≤ 6 → length (double (characters_and_spaces characters)) ≡ 6
+length-padded characters h =
+    length-map (characters_and_spaces characters) (λ b. 2 * b)
+    ∙ length-append characters (replicate (6 - length characters) 32)
+    ∙ ap (λ n. length characters + n) (length-replicate (6 - length characters) 32)
     ∙ omega arith
 
 -- ---- the octets of an address
@@ -93,52 +93,52 @@ module _ (extension : ℕ) (a : Address) (h : IsAddress a) where
   abbrev octets : List ℕ
   octets = address_octets extension a
 
-  abbrev letter_octets : List ℕ
-  letter_octets = double (letters_and_spaces a.call.letters)
+  abbrev character_octets : List ℕ
+  character_octets = double (characters_and_spaces a.call.characters)
 
   abbrev last : ℕ
   last = 32 * a.flags + 2 * a.call.ssid + extension
 
-  six : length letter_octets ≡ 6
-  six = length-padded a.call.letters h.call.most
+  six : length character_octets ≡ 6
+  six = length-padded a.call.characters h.call.most
 
   pub length-address_octets : length (address_octets extension a) ≡ 7
-  length-address_octets = length-append letter_octets (last ∷ []) ∙ ap (λ n. n + 1) six
+  length-address_octets = length-append character_octets (last ∷ []) ∙ ap (λ n. n + 1) six
 
-  parts_apart : letter_octets
-      ≡ double a.call.letters ++ double (replicate (6 - length a.call.letters) 32)
-  parts_apart = map-append (λ b. 2 * b) a.call.letters (replicate (6 - length a.call.letters) 32)
+  parts_apart : character_octets
+      ≡ double a.call.characters ++ double (replicate (6 - length a.call.characters) 32)
+  parts_apart = map-append (λ b. 2 * b) a.call.characters (replicate (6 - length a.call.characters) 32)
 
-  pub letters_len-address_octets : letters_len (address_octets extension a) ≡ length a.call.letters
-  letters_len-address_octets =
-      ap (position_or_len is_no_letter) (take_at letter_octets (last ∷ []) 6 six ∙ parts_apart)
-      ∙ letters_end a.call.letters (6 - length a.call.letters) h.call.bytes
+  pub characters_len-address_octets : characters_len (address_octets extension a) ≡ length a.call.characters
+  characters_len-address_octets =
+      ap (position_or_len ends_characters) (take_at character_octets (last ∷ []) 6 six ∙ parts_apart)
+      ∙ characters_end a.call.characters (6 - length a.call.characters) h.call.bytes
 
   pub has_callsign-address_octets : has_callsign (address_octets extension a) ≡ true
   has_callsign-address_octets =
-      let n = length a.call.letters in
-      let doubled : length (double a.call.letters) ≡ n = length-map a.call.letters (λ b. 2 * b) in
+      let n = length a.call.characters in
+      let doubled : length (double a.call.characters) ≡ n = length-map a.call.characters (λ b. 2 * b) in
       ap (λ k. nat_lt 0 k && list_all is_space_octet (drop k (take 6 octets)))
-      letters_len-address_octets
+      characters_len-address_octets
       ∙ ap (λ l. nat_lt 0 n && list_all is_space_octet (drop n l))
-      (take_at letter_octets (last ∷ []) 6 six ∙ parts_apart)
+      (take_at character_octets (last ∷ []) 6 six ∙ parts_apart)
       ∙ ap (λ l. nat_lt 0 n && list_all is_space_octet l)
-      (drop_at (double a.call.letters) (double (replicate (6 - n) 32)) n doubled)
+      (drop_at (double a.call.characters) (double (replicate (6 - n) 32)) n doubled)
       ∙ and_from _ _ (lt-ltb 0 n h.call.some) (spaces_all (6 - n))
 
-  letters-are : half (take (letters_len octets) octets) ≡ a.call.letters
-  letters-are =
-      let spaces = double (replicate (6 - length a.call.letters) 32) in
-      ap (λ k. half (take k octets)) letters_len-address_octets
-      ∙ ap (λ l. half (take (length a.call.letters) (l ++ last ∷ []))) parts_apart
-      ∙ ap (λ l. half (take (length a.call.letters) l))
-      (append_assoc (double a.call.letters) spaces (last ∷ []))
-      ∙ ap half (take_at (double a.call.letters) (spaces ++ last ∷ []) (length a.call.letters)
-      (length-map a.call.letters (λ b. 2 * b)))
-      ∙ half-double a.call.letters
+  characters-are : half (take (characters_len octets) octets) ≡ a.call.characters
+  characters-are =
+      let spaces = double (replicate (6 - length a.call.characters) 32) in
+      ap (λ k. half (take k octets)) characters_len-address_octets
+      ∙ ap (λ l. half (take (length a.call.characters) (l ++ last ∷ []))) parts_apart
+      ∙ ap (λ l. half (take (length a.call.characters) l))
+      (append_assoc (double a.call.characters) spaces (last ∷ []))
+      ∙ ap half (take_at (double a.call.characters) (spaces ++ last ∷ []) (length a.call.characters)
+      (length-map a.call.characters (λ b. 2 * b)))
+      ∙ half-double a.call.characters
 
   last-is : slice_index octets 6 ≡ last
-  last-is = get_or_at letter_octets last [] 0 6 six
+  last-is = get_or_at character_octets last [] 0 6 six
 
 module _ (extension : ℕ) (small : extension < 2) (a : Address) (h : IsAddress a) where
   -- reading an address's octets gives the address
@@ -151,21 +151,21 @@ module _ (extension : ℕ) (small : extension < 2) (a : Address) (h : IsAddress 
       omega arith in
       ap (λ l. record {
         call =
-            record { letters = l; ssid = (slice_index (address_octets extension a) 6 / 2) % 16 };
+            record { characters = l; ssid = (slice_index (address_octets extension a) 6 / 2) % 16 };
         flags = slice_index (address_octets extension a) 6 / 32;
-      }) (letters-are extension a h)
+      }) (characters-are extension a h)
       ∙ ap (λ o. record {
-        call = record { letters = a.call.letters; ssid = (o / 2) % 16 };
+        call = record { characters = a.call.characters; ssid = (o / 2) % 16 };
         flags =
             o / 32;
       }) (last-is extension a h)
       ∙ ap (λ n. record {
-        call = record { letters = a.call.letters; ssid = n };
+        call = record { characters = a.call.characters; ssid = n };
         flags =
             (32 * a.flags + 2 * a.call.ssid + extension) / 32;
       }) low
       ∙ ap (λ n. record {
-        call = record { letters = a.call.letters; ssid = a.call.ssid };
+        call = record { characters = a.call.characters; ssid = a.call.ssid };
         flags =
             n;
       }) top
@@ -181,44 +181,44 @@ last_octet o = omega arith
 module _ (os : List ℕ) (seven : length os ≡ 7) (h : has_callsign os ≡ true)
     (e : are_even (take 6 os) ≡ true) where
   abbrev len : ℕ
-  len = letters_len os
+  len = characters_len os
 
-  abbrev letters : List ℕ
-  letters = take len os
+  abbrev characters : List ℕ
+  characters = take len os
 
   abbrev spaces : List ℕ
   spaces = drop len (take 6 os)
 
-  six_apart : take 6 os ≡ letters ++ spaces
+  six_apart : take 6 os ≡ characters ++ spaces
   six_apart = sym (take-append-drop len (take 6 os))
-      ∙ ap (λ l. l ++ spaces) (take-take len 6 os (letters_len-le os))
+      ∙ ap (λ l. l ++ spaces) (take-take len 6 os (characters_len-le os))
 
-  both_even : (are_even letters ≡ true) × (are_even spaces ≡ true)
+  both_even : (are_even characters ≡ true) × (are_even spaces ≡ true)
   both_even = and_parts _ _
-      (sym (list_all-append (λ o. not (ends_field o)) letters spaces) ∙ ap are_even (sym six_apart)
+      (sym (list_all-append (λ o. not (ends_field o)) characters spaces) ∙ ap are_even (sym six_apart)
       ∙ e)
 
-  len_half : length (half letters) ≡ len
-  len_half = length-map letters (λ o. o / 2)
-      ∙ length-take-le len os (omega (arith, letters_len-le os))
+  len_half : length (half characters) ≡ len
+  len_half = length-map characters (λ o. o / 2)
+      ∙ length-take-le len os (omega (arith, characters_len-le os))
 
   len_spaces : length spaces ≡ 6 - len
   len_spaces = length-drop len (take 6 os) ∙ ap (λ n. n - len) (length-take-le 6 os (omega arith))
 
-  front_is : double (letters_and_spaces (half letters)) ≡ take 6 os
+  front_is : double (characters_and_spaces (half characters)) ≡ take 6 os
   front_is =
-      map-append (λ b. 2 * b) (half letters) (replicate (6 - length (half letters)) 32)
-      ∙ ap (λ l. l ++ double (replicate (6 - length (half letters)) 32))
-      (double-half letters both_even.0)
-      ∙ ap (λ n. letters ++ double (replicate (6 - n) 32)) len_half
-      ∙ ap (λ n. letters ++ double (replicate n 32)) (sym len_spaces)
-      ∙ ap (λ l. letters ++ l) (sym (spaces-are spaces (and_parts _ _ h).1 both_even.1))
+      map-append (λ b. 2 * b) (half characters) (replicate (6 - length (half characters)) 32)
+      ∙ ap (λ l. l ++ double (replicate (6 - length (half characters)) 32))
+      (double-half characters both_even.0)
+      ∙ ap (λ n. characters ++ double (replicate (6 - n) 32)) len_half
+      ∙ ap (λ n. characters ++ double (replicate n 32)) (sym len_spaces)
+      ∙ ap (λ l. characters ++ l) (sym (spaces-are spaces (and_parts _ _ h).1 both_even.1))
       ∙ sym six_apart
 
   pub address_of-spells : os ≡ address_octets (slice_index os 6 % 2) (address_of os)
   address_of-spells =
       split_last os seven ∙ ap (λ l. l ++ slice_index os 6 ∷ []) (sym front_is)
-      ∙ ap (λ o. double (letters_and_spaces (half letters)) ++ o ∷ []) (last_octet (slice_index os 6))
+      ∙ ap (λ o. double (characters_and_spaces (half characters)) ++ o ∷ []) (last_octet (slice_index os 6))
 
 pub address_of-IsAddress : (os : List ℕ) → length os ≡ 7 → has_callsign os ≡ true
     → slice_index os 6 < 256 → IsAddress (address_of os)

@@ -116,7 +116,7 @@ from_dash-first text h =
 
 pub call_fault-CallText : (text : List ℕ) (s : ℕ) → call_fault text ≡ None
     → ssid_of (from_dash text) ≡ Some s
-    → SpellsCall (record { letters = before_dash text; ssid = s }) text
+    → SpellsCall (record { characters = before_dash text; ssid = s }) text
 call_fault-CallText text s h e =
     let size = cond-None (has_call_fault Length text) _ _ h in
     let bytes = cond-None (has_call_fault Character text) _ _ size.1 in
@@ -136,16 +136,16 @@ call_fault-CallText text s h e =
 
 -- ---- the text of a callsign
 
-no_dash : (letters d : List ℕ) → list_all is_callsign_byte letters ≡ true
-    → position_or_len is_dash (letters ++ d) ≡ length letters + position_or_len is_dash d
+no_dash : (characters d : List ℕ) → list_all is_callsign_byte characters ≡ true
+    → position_or_len is_dash (characters ++ d) ≡ length characters + position_or_len is_dash d
 no_dash [] d h = omega arith
-no_dash (b ∷ letters) d h =
+no_dash (b ∷ characters) d h =
     let p = and_parts _ _ h in
     let ne : is_dash b ≡ false =
     ne_eqb b 45 (λ e. let bad : is_callsign_byte 45 ≡ true = ap is_callsign_byte (sym e)
     ∙ p.0 in cc) in
-    ap (λ t. cond (not t) (1 + position_or_len is_dash (letters ++ d)) 0) ne
-    ∙ ap (λ n. 1 + n) (no_dash letters d p.1) ∙ omega arith
+    ap (λ t. cond (not t) (1 + position_or_len is_dash (characters ++ d)) 0) ne
+    ∙ ap (λ n. 1 + n) (no_dash characters d p.1) ∙ omega arith
 
 ssid_dash : (s : ℕ) → position_or_len is_dash (ssid_text s) ≡ 0
 ssid_dash s = elim (s == 0) as
@@ -153,25 +153,25 @@ ssid_dash s = elim (s == 0) as
     [ true ↦ refl | false ↦ refl ]
 
 module _ (c : Call) (text : List ℕ) (h : SpellsCall c text) where
-  place : position_or_len is_dash text ≡ length c.letters
-  place = ap (position_or_len is_dash) h.spelled ∙ no_dash c.letters (ssid_text c.ssid) h.call.bytes
-      ∙ ap (λ n. length c.letters + n) (ssid_dash c.ssid) ∙ omega arith
+  place : position_or_len is_dash text ≡ length c.characters
+  place = ap (position_or_len is_dash) h.spelled ∙ no_dash c.characters (ssid_text c.ssid) h.call.bytes
+      ∙ ap (λ n. length c.characters + n) (ssid_dash c.ssid) ∙ omega arith
 
-  pub before_dash-is : before_dash text ≡ c.letters
-  before_dash-is = ap (λ n. take n text) place ∙ ap (take (length c.letters)) h.spelled
-      ∙ take_at c.letters (ssid_text c.ssid) (length c.letters) refl
+  pub before_dash-is : before_dash text ≡ c.characters
+  before_dash-is = ap (λ n. take n text) place ∙ ap (take (length c.characters)) h.spelled
+      ∙ take_at c.characters (ssid_text c.ssid) (length c.characters) refl
 
   pub from_dash-is : from_dash text ≡ ssid_text c.ssid
   from_dash-is = ap (λ l. drop (length l) text) before_dash-is
-      ∙ ap (drop (length c.letters)) h.spelled
-      ∙ drop_at c.letters (ssid_text c.ssid) (length c.letters) refl
+      ∙ ap (drop (length c.characters)) h.spelled
+      ∙ drop_at c.characters (ssid_text c.ssid) (length c.characters) refl
 
   pub ssid-is : ssid_of (from_dash text) ≡ Some c.ssid
   ssid-is = ap ssid_of from_dash-is ∙ ssid_of-ssid_text c.ssid h.call.ssid
 
   pub CallText-call_fault : call_fault text ≡ None
   CallText-call_fault =
-      let n = length c.letters in
+      let n = length c.characters in
       let size : has_call_fault Length text ≡ false =
       ap (λ l. not (nat_le 1 (length l) && nat_le (length l) 6)) before_dash-is
       ∙ ap not (and_from (nat_le 1 n) (nat_le n 6) (le-leb 1 n h.call.some)
@@ -183,10 +183,10 @@ module _ (c : Call) (text : List ℕ) (h : SpellsCall c text) where
 
   -- the text says which callsign it is of
   pub CallText-is : (s : ℕ) → ssid_of (from_dash text) ≡ Some s
-      → record { letters = before_dash text; ssid = s } ≡ c
+      → record { characters = before_dash text; ssid = s } ≡ c
   CallText-is s e =
-      ap (λ l. record { letters = l; ssid = s }) before_dash-is
-      ∙ ap (λ n. record { letters = c.letters; ssid = n }) (some-is s c.ssid (sym e ∙ ssid-is))
+      ap (λ l. record { characters = l; ssid = s }) before_dash-is
+      ∙ ap (λ n. record { characters = c.characters; ssid = n }) (some-is s c.ssid (sym e ∙ ssid-is))
 
 -- ---- text that has a fault
 
@@ -264,11 +264,11 @@ call_fault-FirstCallFault text fault h = found text fault _ _ _ refl refl refl h
 
 -- ---- the bytes of a callsign's text
 
-letters-ascii : (letters : List ℕ) → list_all is_callsign_byte letters ≡ true → IsAscii letters
-letters-ascii [] h = IsAscii-nil
-letters-ascii (b ∷ letters) h =
+characters-ascii : (characters : List ℕ) → list_all is_callsign_byte characters ≡ true → IsAscii characters
+characters-ascii [] h = IsAscii-nil
+characters-ascii (b ∷ characters) h =
     let p = and_parts _ _ h in
-    IsAscii-cons b letters (grind (arith, nat_tests)) (letters-ascii letters p.1)
+    IsAscii-cons b characters (grind (arith, nat_tests)) (characters-ascii characters p.1)
 
 ssid_text-ascii : (s : ℕ) → s < 16 → IsAscii (ssid_text s)
 ssid_text-ascii s h = elim (s == 0) as (λ b. IsAscii (cond b [] (45 ∷ decimal s)))
@@ -276,5 +276,5 @@ ssid_text-ascii s h = elim (s == 0) as (λ b. IsAscii (cond b [] (45 ∷ decimal
 
 -- it is ASCII
 pub IsAscii-call_text : (c : Call) → IsCall c → IsAscii (call_text c)
-IsAscii-call_text c h = IsAscii-append c.letters (ssid_text c.ssid) (letters-ascii c.letters h.bytes)
+IsAscii-call_text c h = IsAscii-append c.characters (ssid_text c.ssid) (characters-ascii c.characters h.bytes)
     (ssid_text-ascii c.ssid h.ssid)

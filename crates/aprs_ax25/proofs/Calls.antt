@@ -8,7 +8,7 @@ use Rattle.std.proofs.lemmas.List.Sums.{prefix_len-le-length, fails_before_first
 use Rattle.std.proofs.lemmas.List.Folds.{list_all-map}
 use Rattle.std.proofs.lemmas.Bool.{and_parts, ltb-true, ne_eqb}
 use Rattle.aprs_ax25.specs.Callsign.{IsCall, is_callsign_byte, ssid_text}
-use Rattle.aprs_ax25.specs.FrameFault.{letters_len, is_no_letter, has_callsign, call_of}
+use Rattle.aprs_ax25.specs.FrameFault.{characters_len, ends_characters, has_callsign, call_of}
 
 -- a dash and one digit
 pub ssid_text-one : (n : ℕ) → 0 < n → n < 10 → ssid_text n ≡ 45 ∷ (48 + n) ∷ []
@@ -27,40 +27,40 @@ not-false : (b : Bool) → not b ≡ false → b ≡ true
 not-false true h = refl
 not-false false h = cc
 
-pub letters_len-le : (octets : List ℕ) → letters_len octets ≤ 6
-letters_len-le octets =
+pub characters_len-le : (octets : List ℕ) → characters_len octets ≤ 6
+characters_len-le octets =
     omega (
       arith,
-      prefix_len-le-length (λ o. not (is_no_letter o)) (take 6 octets),
+      prefix_len-le-length (λ o. not (ends_characters o)) (take 6 octets),
       length-take 6
           octets,
     )
 
 -- the octets before the first that is no letter are letters
-pub letters-pass : (octets : List ℕ)
-    → list_all is_callsign_byte (map (λ o. o / 2) (take (letters_len octets) octets)) ≡ true
-letters-pass octets =
-    let n = letters_len octets in
+pub characters-pass : (octets : List ℕ)
+    → list_all is_callsign_byte (map (λ o. o / 2) (take (characters_len octets) octets)) ≡ true
+characters-pass octets =
+    let n = characters_len octets in
     let pass : All (λ o. is_callsign_byte (o / 2) ≡ true) (take n octets) = λ k d h.
     let low : k < n = omega (arith, length-take n octets) in
-    let six : k < 6 = omega (arith, letters_len-le octets) in
+    let six : k < 6 = omega (arith, characters_len-le octets) in
     ap (λ o. is_callsign_byte (o / 2)) (get_or-take n octets k d low)
-    ∙ not-false _ (ap is_no_letter (sym (get_or-take 6 octets k d six))
-    ∙ fails_before_first is_no_letter (take 6 octets) k d low) in
+    ∙ not-false _ (ap ends_characters (sym (get_or-take 6 octets k d six))
+    ∙ fails_before_first ends_characters (take 6 octets) k d low) in
     list_all-map is_callsign_byte (λ o. o / 2) (take n octets)
     ∙ list_all-from_AllPass (λ o. is_callsign_byte (o / 2)) (take n octets) pass
 
 pub call_of-IsCall : (octets : List ℕ) → length octets ≡ 7 → has_callsign octets ≡ true
     → IsCall (call_of octets)
 call_of-IsCall octets seven h =
-    let n = letters_len octets in
+    let n = characters_len octets in
     let some : 0 < n = ltb-true 0 n (and_parts _ _ h).0 in
-    let most = letters_len-le octets in
+    let most = characters_len-le octets in
     let len : length (map (λ o. o / 2) (take n octets)) ≡ n =
     length-map (take n octets) (λ o. o / 2) ∙ length-take-le n octets (omega arith) in
     record {
       some = omega arith;
       most = omega arith;
-      bytes = letters-pass octets;
+      bytes = characters-pass octets;
       ssid = omega arith;
     }

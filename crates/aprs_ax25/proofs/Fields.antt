@@ -4,7 +4,7 @@ use Rattle.std.specs.List.{list_all, position_or_len, AllByRecursion, All}
 use Rattle.std.proofs.lemmas.List.{length-take, length-take-le, length-drop, length-append, take_at, drop_at, take_all, take-take, get_or-take, get_or-drop}
 use Rattle.std.proofs.lemmas.List.Sums.{fails_before_first, passes_at_first, list_all-from_AllPass}
 use Rattle.std.proofs.lemmas.Bool.{and_parts, and_from, eqb-true, eqb-false, ne_eqb}
-use Rattle.aprs_ax25.specs.Address.{Address, IsAddress, letters_and_spaces, address_octets}
+use Rattle.aprs_ax25.specs.Address.{Address, IsAddress, characters_and_spaces, address_octets}
 use Rattle.aprs_ax25.specs.Frame.{address_field}
 use Rattle.aprs_ax25.specs.FrameFault.{ends_field, sevens, has_callsign, address_of}
 use Rattle.aprs_ax25.proofs.Addresses.{double, are_even, are_even-double, length-address_octets, has_callsign-address_octets, address_of-address_octets, address_of-spells, address_of-IsAddress}
@@ -19,14 +19,14 @@ position-past (x ∷ xs) ys h =
     ∙ ap (λ n. 1 + n) (position-past xs ys p.1) ∙ omega arith
 
 module _ (a : Address) (h : IsAddress a) (rest : List ℕ) where
-  abbrev letter_octets : List ℕ
-  letter_octets = double (letters_and_spaces a.call.letters)
+  abbrev character_octets : List ℕ
+  character_octets = double (characters_and_spaces a.call.characters)
 
   abbrev last : ℕ → ℕ
   last extension = 32 * a.flags + 2 * a.call.ssid + extension
 
-  six : length letter_octets ≡ 6
-  six = omega (arith, length-address_octets 0 a h, length-append letter_octets (last 0 ∷ []))
+  six : length character_octets ≡ 6
+  six = omega (arith, length-address_octets 0 a h, length-append character_octets (last 0 ∷ []))
 
   last_even : not (ends_field (last 0)) ≡ true
   last_even = ap not (ne_eqb (last 0 % 2) 1 (λ e. omega arith))
@@ -38,8 +38,8 @@ module _ (a : Address) (h : IsAddress a) (rest : List ℕ) where
   pub position-more : position_or_len ends_field (address_octets 0 a ++ rest)
       ≡ 7 + position_or_len ends_field rest
   position-more =
-      ap (position_or_len ends_field) (append_assoc letter_octets (last 0 ∷ []) rest)
-      ∙ position-past letter_octets (last 0 ∷ rest) (are_even-double (letters_and_spaces a.call.letters))
+      ap (position_or_len ends_field) (append_assoc character_octets (last 0 ∷ []) rest)
+      ∙ position-past character_octets (last 0 ∷ rest) (are_even-double (characters_and_spaces a.call.characters))
       ∙ ap (λ n. n + cond (not (ends_field (last 0))) (1 + position_or_len ends_field rest) 0) six
       ∙ ap (λ b. 6 + cond b (1 + position_or_len ends_field rest) 0) last_even
       ∙ omega arith
@@ -47,8 +47,8 @@ module _ (a : Address) (h : IsAddress a) (rest : List ℕ) where
   -- and ends with one whose extension bit is 1
   pub position-last : position_or_len ends_field (address_octets 1 a ++ rest) ≡ 6
   position-last =
-      ap (position_or_len ends_field) (append_assoc letter_octets (last 1 ∷ []) rest)
-      ∙ position-past letter_octets (last 1 ∷ rest) (are_even-double (letters_and_spaces a.call.letters))
+      ap (position_or_len ends_field) (append_assoc character_octets (last 1 ∷ []) rest)
+      ∙ position-past character_octets (last 1 ∷ rest) (are_even-double (characters_and_spaces a.call.characters))
       ∙ ap (λ n. n + cond (not (ends_field (last 1))) (1 + position_or_len ends_field rest) 0) six
       ∙ ap (λ b. 6 + cond b (1 + position_or_len ends_field rest) 0) last_odd
 
@@ -109,9 +109,9 @@ sevens-address_field a (b ∷ others) h =
 
 -- ---- octets that are a field
 
-are_even-letter_octets : (n : ℕ) (xs : List ℕ) → n ≤ position_or_len ends_field xs
+are_even-character_octets : (n : ℕ) (xs : List ℕ) → n ≤ position_or_len ends_field xs
     → are_even (take n xs) ≡ true
-are_even-letter_octets n xs h =
+are_even-character_octets n xs h =
     list_all-from_AllPass (λ o. not (ends_field o)) (take n xs) (λ k d lt.
     let low : k < n = omega (arith, length-take n xs) in
     ap (λ o. not (ends_field o)) (get_or-take n xs k d low)
@@ -157,7 +157,7 @@ Spells-sevens zero field len end calls bytes =
     let call : has_callsign field ≡ true = ap has_callsign (sym whole) ∙ (and_parts _ _ calls).0 in
     let P : List ℕ → Type 0 = λ l. Spells field (l ∷ []) in
     subst P (sym whole) (record {
-      spelled = address_of-spells field seven call (are_even-letter_octets 6 field (omega arith))
+      spelled = address_of-spells field seven call (are_even-character_octets 6 field (omega arith))
           ∙ ap (λ n. address_octets n (address_of field))
           (odd-at field 6 (omega arith) (omega arith));
       each = (address_of-IsAddress field seven call (bytes 6 0 (omega arith)), tt);
@@ -168,13 +168,13 @@ Spells-sevens (suc m) field len end calls bytes =
     let apart : first ++ rest ≡ field = take-append-drop 7 field in
     let seven : length first ≡ 7 = length-take-le 7 field (omega arith) in
     let len_rest : length rest ≡ 7 * suc m = omega (arith, length-drop 7 field) in
-    let even : are_even first ≡ true = are_even-letter_octets 7 field (omega arith) in
+    let even : are_even first ≡ true = are_even-character_octets 7 field (omega arith) in
     let there : position_or_len ends_field field ≡ 7 + position_or_len ends_field rest =
     ap (position_or_len ends_field) (sym apart) ∙ position-past first rest even
     ∙ ap (λ n. n + position_or_len ends_field rest) seven in
     let call : has_callsign first ≡ true = (and_parts _ _ calls).0 in
     let six : are_even (take 6 first) ≡ true = ap are_even (take-take 6 7 field (omega arith))
-    ∙ are_even-letter_octets 6 field (omega arith) in
+    ∙ are_even-character_octets 6 field (omega arith) in
     let last : slice_index first 6 % 2 ≡ 0 = ap (λ o. o % 2) (get_or-take 7 field 6 0 (omega arith))
     ∙ even-at field 6 (omega arith) in
     let left = Spells-sevens m rest len_rest (omega arith) (and_parts _ _ calls).1

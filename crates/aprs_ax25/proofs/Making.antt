@@ -5,7 +5,7 @@ use Rattle.aprs_ax25.proofs.Sounds.{cond-None}
 use Rattle.std.specs.List.{AllByRecursion}
 use Rattle.std.proofs.lemmas.List.{map-append, drop-replicate, take_all, take_more, length-map, length-drop, drop_more}
 use Rattle.aprs_ax25.specs.Callsign.{Call}
-use Rattle.aprs_ax25.specs.Address.{Address, IsAddress, letters_and_spaces, address_octets}
+use Rattle.aprs_ax25.specs.Address.{Address, IsAddress, characters_and_spaces, address_octets}
 use Rattle.aprs_ax25.specs.Frame.{Parts, IsParts, FrameOf, address_field, spelling}
 use Rattle.aprs_ax25.specs.declared.hop.Hop.{Hop}
 use Rattle.aprs_ax25.specs.FrameFault.{frame_fault, parts_of}
@@ -17,17 +17,17 @@ double-spaces zero = refl
 double-spaces (suc n) = ap (λ l. 64 ∷ l) (double-spaces n)
 
 -- the letters went out, and then of six spaces those that are wanting
-pub padded-pushed : (a b c letters : List ℕ) (i : ℕ) → length letters ≤ i → b
-    ≡ a ++ map (λ l. 2 * l) (take i letters)
-    → c ≡ b ++ drop (length letters) (replicate 6 64) → c ≡ a ++ map (λ l. 2 * l) (letters_and_spaces letters)
-padded-pushed a b c letters i h f g =
-    let n = length letters in
+pub padded-pushed : (a b c characters : List ℕ) (i : ℕ) → length characters ≤ i → b
+    ≡ a ++ map (λ l. 2 * l) (take i characters)
+    → c ≡ b ++ drop (length characters) (replicate 6 64) → c ≡ a ++ map (λ l. 2 * l) (characters_and_spaces characters)
+padded-pushed a b c characters i h f g =
+    let n = length characters in
     g ∙ ap (λ l. l ++ drop n (replicate 6 64))
-    (f ∙ ap (λ l. a ++ map (λ x. 2 * x) l) (take_all i letters h))
-    ∙ append_assoc a (map (λ l. 2 * l) letters) (drop n (replicate 6 64))
-    ∙ ap (λ l. a ++ (map (λ x. 2 * x) letters ++ l))
+    (f ∙ ap (λ l. a ++ map (λ x. 2 * x) l) (take_all i characters h))
+    ∙ append_assoc a (map (λ l. 2 * l) characters) (drop n (replicate 6 64))
+    ∙ ap (λ l. a ++ (map (λ x. 2 * x) characters ++ l))
     (drop-replicate n 6 64 ∙ sym (double-spaces (6 - n)))
-    ∙ ap (λ l. a ++ l) (sym (map-append (λ l. 2 * l) letters (replicate (6 - n) 32)))
+    ∙ ap (λ l. a ++ l) (sym (map-append (λ l. 2 * l) characters (replicate (6 - n) 32)))
 
 -- an address before others, with the extension bit that they leave it
 field-cons : (x : Address) (more : List Address) (e : ℕ) → (length more ≡ 0 → e ≡ 1)

@@ -4,9 +4,9 @@ use Rattle.std.specs.List.{list_all, position_or_len}
 use Rattle.std.proofs.lemmas.List.{length-take-le, length-drop, take-take, drop-drop, drop-take, get_or-take, get_or-drop, drop_more}
 use Rattle.std.proofs.lemmas.Bool.{and_parts, and_from, eqb-true, ne_eqb, le-leb, leb-true, lt-ltb, lt-leb, cases_lt}
 use Rattle.aprs_ax25.specs.Callsign.{is_callsign_byte}
-use Rattle.aprs_ax25.specs.FrameFault.{ends_field, field_len, field_of, after_field, is_field_len, sevens, has_callsign, is_no_letter, is_space_octet, letters_len, has_frame_fault, frame_fault}
+use Rattle.aprs_ax25.specs.FrameFault.{ends_field, field_len, field_of, after_field, is_field_len, sevens, has_callsign, ends_characters, is_space_octet, characters_len, has_frame_fault, frame_fault}
 use Rattle.aprs_ax25.specs.declared.fault.FrameFault.TheVariants.{Address, Callsign}
-use Rattle.aprs_ax25.specs.Plain.{is_callsign_octet, letters_then_spaces, may_follow, IsPlainAddress}
+use Rattle.aprs_ax25.specs.Plain.{is_callsign_octet, characters_then_spaces, may_follow, IsPlainAddress}
 use Rattle.aprs_ax25.specs.Scan.{fault_after_field}
 use Rattle.aprs_ax25.proofs.Addresses.{are_even}
 use Rattle.aprs_ax25.proofs.Fields.{position-past}
@@ -25,8 +25,8 @@ callsign_byte-most b h =
           omega arith
     ] refl
 
-letter-is : (o : ℕ) → is_callsign_octet o ≡ true → (is_callsign_byte (o / 2) ≡ true) × (o % 2 ≡ 0)
-letter-is o h =
+character-is : (o : ℕ) → is_callsign_octet o ≡ true → (is_callsign_byte (o / 2) ≡ true) × (o % 2 ≡ 0)
+character-is o h =
     let most = callsign_byte-most (o / 2 + 128 * (o % 2)) h in
     let even : o % 2 ≡ 0 = omega arith in
     let half : o / 2 + 128 * (o % 2) ≡ o / 2 = omega arith in
@@ -35,8 +35,8 @@ letter-is o h =
 even-goes_on : (o : ℕ) → o % 2 ≡ 0 → not (ends_field o) ≡ true
 even-goes_on o h = ap (λ n. not (n == 1)) h
 
-letter-no_end : (o : ℕ) → is_callsign_octet o ≡ true → not (ends_field o) ≡ true
-letter-no_end o h = even-goes_on o (letter-is o h).1
+character-no_end : (o : ℕ) → is_callsign_octet o ≡ true → not (ends_field o) ≡ true
+character-no_end o h = even-goes_on o (character-is o h).1
 
 space-no_end : (o : ℕ) → (o == 64) ≡ true → not (ends_field o) ≡ true
 space-no_end o h = ap (λ n. not (ends_field n)) (eqb-true o 64 h)
@@ -48,12 +48,12 @@ octet-even o p h =
     elim (o == 64) as (λ t. (o == 64) ≡ t → not (ends_field o) ≡ true) [
       | true ↦ λ e. space-no_end o e
       | false ↦ λ e.
-          let letter : (p && is_callsign_octet o) ≡ true =
+          let character : (p && is_callsign_octet o) ≡ true =
           ap (λ t. t || (p && is_callsign_octet o)) (sym e) ∙ h in
-          letter-no_end o (and_parts _ _ letter).1
+          character-no_end o (and_parts _ _ character).1
     ] refl
 
-pub plain-even : (p : Bool) (os : List ℕ) → letters_then_spaces p os ≡ true → are_even os ≡ true
+pub plain-even : (p : Bool) (os : List ℕ) → characters_then_spaces p os ≡ true → are_even os ≡ true
 plain-even p [] h = refl
 plain-even p (o ∷ os) h =
     let q = and_parts _ _ h in
@@ -67,20 +67,20 @@ only-space o h =
       | false ↦ λ e. absurd (let no : false ≡ true = ap (λ t. t || false) (sym e) ∙ h in cc)
     ] refl
 
-spaces-only : (os : List ℕ) → letters_then_spaces false os ≡ true → list_all is_space_octet os
+spaces-only : (os : List ℕ) → characters_then_spaces false os ≡ true → list_all is_space_octet os
     ≡ true
 spaces-only [] h = refl
 spaces-only (o ∷ os) h =
     let q = and_parts _ _ h in
     let is = only-space o q.0 in
-    let more : letters_then_spaces false os ≡ true =
-    ap (λ n. letters_then_spaces (is_callsign_octet n) os) (sym is) ∙ q.1 in
+    let more : characters_then_spaces false os ≡ true =
+    ap (λ n. characters_then_spaces (is_callsign_octet n) os) (sym is) ∙ q.1 in
     and_from _ _ (ap is_space_octet is) (spaces-only os more)
 
 -- after a letter
-space-or-letter : (o : ℕ) → (o == 64 || (true && is_callsign_octet o)) ≡ true → is_callsign_octet o
+space-or-character : (o : ℕ) → (o == 64 || (true && is_callsign_octet o)) ≡ true → is_callsign_octet o
     ≡ false → o ≡ 64
-space-or-letter o h other =
+space-or-character o h other =
     elim (o == 64) as (λ t. (o == 64) ≡ t → o ≡ 64) [
       | true ↦ λ e. eqb-true o 64 e
       | false ↦ λ e. absurd
@@ -89,49 +89,49 @@ space-or-letter o h other =
     ] refl
 
 abbrev spaces_after : List ℕ → Bool
-spaces_after os = list_all is_space_octet (drop (position_or_len is_no_letter os) os)
+spaces_after os = list_all is_space_octet (drop (position_or_len ends_characters os) os)
 
-letters-first : (os : List ℕ) → letters_then_spaces true os ≡ true → spaces_after os ≡ true
-letters-first [] h = refl
-letters-first (o ∷ os) h =
+characters-first : (os : List ℕ) → characters_then_spaces true os ≡ true → spaces_after os ≡ true
+characters-first [] h = refl
+characters-first (o ∷ os) h =
     let q = and_parts _ _ h in
     elim (is_callsign_octet o) as (λ t. is_callsign_octet o ≡ t → spaces_after (o ∷ os) ≡ true) [
       | true ↦ λ e.
-          let letter = (letter-is o e).0 in
-          let next : 1 + position_or_len is_no_letter os ≡ suc (position_or_len is_no_letter os) =
+          let character = (character-is o e).0 in
+          let next : 1 + position_or_len ends_characters os ≡ suc (position_or_len ends_characters os) =
           omega arith in
-          let more : letters_then_spaces true os ≡ true = ap (λ t. letters_then_spaces t os) (sym e)
+          let more : characters_then_spaces true os ≡ true = ap (λ t. characters_then_spaces t os) (sym e)
           ∙ q.1 in
           ap (λ t. list_all is_space_octet
-          (drop (cond (not (not t)) (1 + position_or_len is_no_letter os) 0) (o ∷ os))) letter
-          ∙ ap (λ k. list_all is_space_octet (drop k (o ∷ os))) next ∙ letters-first os more
+          (drop (cond (not (not t)) (1 + position_or_len ends_characters os) 0) (o ∷ os))) character
+          ∙ ap (λ k. list_all is_space_octet (drop k (o ∷ os))) next ∙ characters-first os more
       | false ↦ λ e.
-          let is = space-or-letter o q.0 e in
-          let more : letters_then_spaces false os ≡ true =
-          ap (λ t. letters_then_spaces t os) (sym e) ∙ q.1 in
+          let is = space-or-character o q.0 e in
+          let more : characters_then_spaces false os ≡ true =
+          ap (λ t. characters_then_spaces t os) (sym e) ∙ q.1 in
           ap (λ n. spaces_after (n ∷ os)) is ∙ spaces-only os more
     ] refl
 
 first-counts : (os : List ℕ) → 0 < length os → is_callsign_octet (slice_index os 0) ≡ true
-    → 0 < position_or_len is_no_letter os
+    → 0 < position_or_len ends_characters os
 first-counts [] some h = absurd (omega arith)
 first-counts (o ∷ os) some h =
-    let letter = (letter-is o h).0 in
-    let e : position_or_len is_no_letter (o ∷ os) ≡ 1 + position_or_len is_no_letter os
-    = ap (λ t. cond (not (not t)) (1 + position_or_len is_no_letter os) 0) letter in
+    let character = (character-is o h).0 in
+    let e : position_or_len ends_characters (o ∷ os) ≡ 1 + position_or_len ends_characters os
+    = ap (λ t. cond (not (not t)) (1 + position_or_len ends_characters os) 0) character in
     omega arith
 
 pub plain-address : (octets : List ℕ) → length octets ≡ 7 → is_callsign_octet (slice_index octets 0)
     ≡ true
-    → letters_then_spaces true (take 6 octets) ≡ true → IsPlainAddress octets
+    → characters_then_spaces true (take 6 octets) ≡ true → IsPlainAddress octets
 plain-address octets seven first all =
     let six = take 6 octets in
     let len : length six ≡ 6 = length-take-le 6 octets (omega arith) in
     let start : is_callsign_octet (slice_index six 0) ≡ true =
     ap is_callsign_octet (get_or-take 6 octets 0 0 (omega arith)) ∙ first in
     record {
-      callsign = and_from _ _ (lt-ltb 0 (letters_len octets) (first-counts six (omega arith) start))
-          (letters-first six all);
+      callsign = and_from _ _ (lt-ltb 0 (characters_len octets) (first-counts six (omega arith) start))
+          (characters-first six all);
       even = plain-even true six all;
     }
 
@@ -176,7 +176,7 @@ follow : (o : ℕ) (os : List ℕ)
     → ((k : ℕ) → k < length os
     → (get_or os k 0 == 64 ||
     (is_callsign_octet (get_or (o ∷ os) k 0) && is_callsign_octet (get_or os k 0))) ≡ true)
-    → letters_then_spaces (is_callsign_octet o) os ≡ true
+    → characters_then_spaces (is_callsign_octet o) os ≡ true
 follow o [] h = refl
 follow o (x ∷ os) h =
     and_from _ _ (h 0 (omega arith)) (follow x os (λ k lt. h (suc k) (omega arith)))
@@ -198,7 +198,7 @@ seven-plain a seven first h =
     let is : six ≡ o ∷ os = drop_more six 0 0 (omega arith) in
     let start : is_callsign_octet o ≡ true = ap is_callsign_octet (get_or-take 6 a 0 0 (omega arith))
     ∙ first in
-    let more : letters_then_spaces (is_callsign_octet o) os ≡ true
+    let more : characters_then_spaces (is_callsign_octet o) os ≡ true
     = follow o os (λ k lt.
     let small : k < 5 = omega (arith, length-drop 1 six) in
     let here : get_or (o ∷ os) k 0 ≡ slice_index a k = ap (λ l. get_or l k 0) (sym is)
@@ -211,8 +211,8 @@ seven-plain a seven first h =
     (is_callsign_octet x && is_callsign_octet (slice_index a (k + 1)))) here
     ∙ h k small) in
     plain-address a seven first
-    (ap (letters_then_spaces true) is
-    ∙ and_from _ _ (starts-with o start) (ap (λ t. letters_then_spaces t os) refl ∙ more))
+    (ap (characters_then_spaces true) is
+    ∙ and_from _ _ (starts-with o start) (ap (λ t. characters_then_spaces t os) refl ∙ more))
 
 -- each octet of two addresses may stand after the one before
 abbrev pub Follows : List ℕ → ℕ → Type 0

@@ -3,18 +3,18 @@ use Rattle.std.proofs.Common.{◌≡◌, ℕ, ◌/◌, ◌≤◌, ◌<◌, suc, 
 use Rattle.std.specs.List.{list_all}
 use Rattle.std.proofs.lemmas.List.{length-drop}
 use Rattle.std.proofs.lemmas.Bool.{lt-ltb}
-use Rattle.aprs_ax25.specs.FrameFault.{letters_len, has_callsign, is_space_octet, sevens, has_frame_fault, frame_fault, after_field}
+use Rattle.aprs_ax25.specs.FrameFault.{characters_len, has_callsign, is_space_octet, sevens, has_frame_fault, frame_fault, after_field}
 use Rattle.aprs_ax25.specs.Scan.{fault_after_field}
 use Rattle.aprs_ax25.specs.declared.fault.FrameFault.TheVariants.{Address, Callsign}
 
 -- a callsign is found where letters stand before the spaces
-pub has_callsign_at : (octets : List ℕ) (n : ℕ) (b : Bool) → n ≡ letters_len octets → 0 < n
+pub has_callsign_at : (octets : List ℕ) (n : ℕ) (b : Bool) → n ≡ characters_len octets → 0 < n
     → b ≡ list_all is_space_octet (drop n (take 6 octets)) → b ≡ has_callsign octets
 has_callsign_at octets n b e lt h =
-    let some : 0 < letters_len octets = omega arith in
+    let some : 0 < characters_len octets = omega arith in
     h ∙ ap (λ k. list_all is_space_octet (drop k (take 6 octets))) e
-    ∙ ap (λ t. t && list_all is_space_octet (drop (letters_len octets) (take 6 octets)))
-    (sym (lt-ltb 0 (letters_len octets) some))
+    ∙ ap (λ t. t && list_all is_space_octet (drop (characters_len octets) (take 6 octets)))
+    (sym (lt-ltb 0 (characters_len octets) some))
 
 -- seven octets or more: a first piece and the pieces of the others
 pub sevens-more : (bytes : List ℕ) → 7 ≤ length bytes

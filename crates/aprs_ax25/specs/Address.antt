@@ -15,14 +15,14 @@ pub record IsAddress (address : Address) : Type 0 where
   pub flags : address.flags < 8
 
 -- The letters and digits of a callsign, and then spaces up to six bytes.
-abbrev pub letters_and_spaces : List ℕ → List ℕ
-letters_and_spaces letters = letters ++ replicate (6 - length letters) 32
+abbrev pub characters_and_spaces : List ℕ → List ℕ
+characters_and_spaces characters = characters ++ replicate (6 - length characters) 32
 
 -- The seven octets of an address: letters, digits and spaces, shifted left by one bit, and an octet
 -- of the flags, the SSID and the extension bit.
 abbrev pub address_octets : ℕ → Address → List ℕ
 address_octets extension address =
-    map (λ b. 2 * b) (letters_and_spaces address.call.letters)
+    map (λ b. 2 * b) (characters_and_spaces address.call.characters)
     ++ (32 * address.flags + 2 * address.call.ssid + extension) ∷ []
 
 -- The H bit is 1: the digipeater has repeated the frame.

@@ -7,7 +7,7 @@ use Rattle.aprs_ax25.specs.Frame.{Parts}
 
 -- The callsign of these letters and this SSID.
 abbrev pub callsign : List ℕ → ℕ → Call
-callsign letters ssid = record { letters = letters; ssid = ssid }
+callsign characters ssid = record { characters = characters; ssid = ssid }
 
 -- The station that the frames are sent to.
 abbrev pub nj7p : Call

@@ -28,14 +28,14 @@ abbrev pub sevens : ℕ → List ℕ → List (List ℕ)
 sevens zero bytes = []
 sevens (suc n) bytes = take 7 bytes ∷ sevens n (drop 7 bytes)
 
--- Shifted right by one bit, the octet is neither a capital nor a digit.
-abbrev pub is_no_letter : ℕ → Bool
-is_no_letter octet = not (is_callsign_byte (octet / 2))
+-- Shifted right by one bit, the octet is neither a capital nor a digit, so a callsign has ended.
+abbrev pub ends_characters : ℕ → Bool
+ends_characters octet = not (is_callsign_byte (octet / 2))
 
 -- How many of an address's first six octets stand before the first that is no capital or digit,
 -- shifted right by one bit; six where all are.
-abbrev pub letters_len : List ℕ → ℕ
-letters_len octets = position_or_len is_no_letter (take 6 octets)
+abbrev pub characters_len : List ℕ → ℕ
+characters_len octets = position_or_len ends_characters (take 6 octets)
 
 -- Shifted right by one bit, the octet is a space.
 abbrev pub is_space_octet : ℕ → Bool
@@ -44,8 +44,8 @@ is_space_octet octet = octet / 2 == 32
 -- The first six octets of an address, shifted right by one bit, are 1 to 6 capitals or digits, and
 -- then spaces alone.
 abbrev pub has_callsign : List ℕ → Bool
-has_callsign octets = nat_lt 0 (letters_len octets) && list_all is_space_octet
-    (drop (letters_len octets) (take 6 octets))
+has_callsign octets = nat_lt 0 (characters_len octets) && list_all is_space_octet
+    (drop (characters_len octets) (take 6 octets))
 
 -- The octets of the address field: all to the one that ends it, and that one. Where none ends it,
 -- all octets.
@@ -92,7 +92,7 @@ frame_or_fault bytes = unless_fault bytes (frame_fault bytes)
 -- The callsign that the octets of an address spell.
 abbrev pub call_of : List ℕ → Call
 call_of octets = record {
-  letters = map (λ o. o / 2) (take (letters_len octets) octets);
+  characters = map (λ o. o / 2) (take (characters_len octets) octets);
   ssid = (slice_index octets 6 / 2) % 16;
 }
 

@@ -10,13 +10,13 @@ use Rattle.aprs_ax25.specs.FrameFault.{ends_field, has_callsign}
 abbrev pub is_callsign_octet : ℕ → Bool
 is_callsign_octet octet = is_callsign_byte (octet / 2 + 128 * (octet % 2))
 
--- The octets are spaces alone; or, where one before them was a letter or digit (`after_letter`),
+-- The octets are spaces alone; or, where one before them was a letter or digit (`after_character`),
 -- they may be letters and digits first.
-abbrev pub letters_then_spaces : Bool → List ℕ → Bool
-letters_then_spaces after_letter [] = true
-letters_then_spaces after_letter (octet ∷ more) =
-    (octet == 64 || (after_letter && is_callsign_octet octet))
-    && letters_then_spaces (is_callsign_octet octet) more
+abbrev pub characters_then_spaces : Bool → List ℕ → Bool
+characters_then_spaces after_character [] = true
+characters_then_spaces after_character (octet ∷ more) =
+    (octet == 64 || (after_character && is_callsign_octet octet))
+    && characters_then_spaces (is_callsign_octet octet) more
 
 -- An octet that may stand after octet i of two addresses, as far as callsigns go: a letter or
 -- digit at the second callsign's start, after octet 6, and after another one; a space anywhere

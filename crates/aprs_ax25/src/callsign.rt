@@ -3,11 +3,11 @@ ghost use Rattle.std.specs.Prelude.{◌≡◌, ◌+◌, ◌<◌, ◌≤◌, ◌*
 ghost use Rattle.std.specs.Fmt.{styled_text};
 ghost use Rattle.std.specs.List.{list_all, position_or_len};
 ghost use Rattle.arrayvec.specs.ArrayVec.{array_vec_len};
-ghost use Rattle.aprs_ax25.specs.Address.{address_octets, letters_and_spaces};
+ghost use Rattle.aprs_ax25.specs.Address.{address_octets, characters_and_spaces};
 ghost use Rattle.aprs_ax25.specs.Callsign as Spec;
 ghost use Rattle.aprs_ax25.specs.CallText;
 ghost use Rattle.aprs_ax25.specs.Scan.{AreCallParts, ssid_of};
-ghost use Rattle.aprs_ax25.specs.FrameFault.{has_callsign, call_of, letters_len};
+ghost use Rattle.aprs_ax25.specs.FrameFault.{has_callsign, call_of, characters_len};
 ghost use Rattle.std.specs.Ordering.{as_partial_cmp};
 ghost use Rattle.std.proofs.Common.{rules};
 ghost use Rattle.std.specs.Cmp.{partial_order_from_own_ties};
@@ -25,7 +25,7 @@ use std::marker::Model;
 /// Callsigns are ordered by their letters and digits, and then by SSID as a number.
 #[derive(Eq, Drop)]
 pub struct Callsign {
-    letters: ArrayVec<u8, 6>,
+    characters: ArrayVec<u8, 6>,
     ssid: u8,
 }
 
@@ -34,11 +34,11 @@ impl Model for Callsign {
 
     ghost Value = { Call };
 
-    ghost view = { λ c. record { letters = c.letters.items; ssid = c.ssid } };
+    ghost view = { λ c. record { characters = c.characters.items; ssid = c.ssid } };
 
-    ghost invariant = { λ c. IsCall (record { letters = c.letters.items; ssid = c.ssid }) };
+    ghost invariant = { λ c. IsCall (record { characters = c.characters.items; ssid = c.ssid }) };
 
-    ghost inverse = { λ c. record { letters = record { items = c.letters }; ssid = c.ssid } };
+    ghost inverse = { λ c. record { characters = record { items = c.characters }; ssid = c.ssid } };
 }
 
 impl Callsign {
@@ -50,8 +50,8 @@ impl Callsign {
         ensures fault { IfErr result (λ fault. CallText.FirstCallFault text.now fault) }
     {
         match parts_of(text) {
-            Ok((letters, ssid)) => Ok(Callsign {
-                letters: up_to_six(letters),
+            Ok((characters, ssid)) => Ok(Callsign {
+                characters: up_to_six(characters),
                 ssid,
             }),
             Err(fault) => Err(fault),
@@ -65,16 +65,16 @@ impl Callsign {
         ensures callsign { Spec.IsCall self.now }
     {
         let mut text = ArrayVec::new();
-        push_all(&mut text, self.letters.as_slice());
+        push_all(&mut text, self.characters.as_slice());
         push_ssid(&mut text, self.ssid);
         text
     }
 
     /// The letters and digits, 1 to 6, without the SSID. Takes no memory.
-    pub fn letters(&self) -> &[u8]
-        ensures { result.now ≡ self.now.letters }
+    pub fn characters(&self) -> &[u8]
+        ensures { result.now ≡ self.now.characters }
     {
-        self.letters.as_slice()
+        self.characters.as_slice()
     }
 
     /// The SSID, 0 to 15. Takes no memory.
@@ -89,7 +89,7 @@ impl Callsign {
         ensures { result ≡ self.now }
     {
         Callsign {
-            letters: copy_bytes(&self.letters),
+            characters: copy_bytes(&self.characters),
             ssid: self.ssid,
         }
     }
@@ -110,7 +110,7 @@ impl Callsign {
             ++ address_octets extension (record { call = self.now; flags = flags }) }
         ensures callsign { Spec.IsCall self.now }
     {
-        push_letters_and_spaces(out, self.letters.as_slice());
+        push_characters_and_spaces(out, self.characters.as_slice());
         out.push(32 * flags + 2 * self.ssid + extension);
     }
 
@@ -122,7 +122,7 @@ impl Callsign {
         ensures { result ≡ call_of octets.now }
     {
         Callsign {
-            letters: letters_of(octets),
+            characters: characters_of(octets),
             ssid: octets[6] / 2 % 16,
         }
     }
@@ -134,7 +134,7 @@ impl PartialEq for Callsign {
     ghost laws = { Prim.search (comparing, rules) };
 
     fn eq(&self, other: &Callsign) -> bool {
-        self.letters == other.letters && self.ssid == other.ssid
+        self.characters == other.characters && self.ssid == other.ssid
     }
 }
 
@@ -148,7 +148,7 @@ impl Ord for Callsign {
     ghost matches_eq = { Prim.search (comparing, rules) };
 
     fn cmp(&self, other: &Callsign) -> Ordering {
-        match self.letters.cmp(&other.letters) {
+        match self.characters.cmp(&other.characters) {
             Ordering::Equal => self.ssid.cmp(&other.ssid),
             unequal => unequal,
         }
@@ -182,31 +182,31 @@ impl fmt::Display for Callsign {
 
 /// The capitals and digits at the start of an address's first six octets, once each octet is
 /// shifted right by one bit.
-fn letters_of(octets: &[u8]) -> ArrayVec<u8, 6>
+fn characters_of(octets: &[u8]) -> ArrayVec<u8, 6>
     requires { 6 ≤ length octets.now }
     ensures { result.items
-        ≡ map (λ octet. octet / 2) (take (letters_len octets.now) octets.now) }
+        ≡ map (λ octet. octet / 2) (take (characters_len octets.now) octets.now) }
 {
-    let mut letters = ArrayVec::new();
-    push_letters(&mut letters, octets);
-    letters
+    let mut characters = ArrayVec::new();
+    push_characters(&mut characters, octets);
+    characters
 }
 
 /// Puts the capitals and digits that an address's first six octets begin with, once each is
 /// shifted right by one bit, at the end of `out`.
-fn push_letters<const N: usize>(out: &mut ArrayVec<u8, N>, octets: &[u8])
+fn push_characters<const N: usize>(out: &mut ArrayVec<u8, N>, octets: &[u8])
     requires six { 6 ≤ length octets.now }
     requires room { array_vec_len out.old + 6 ≤ N }
-    ensures letters { out.new.items ≡ out.old.items
-        ++ map (λ octet. octet / 2) (take (letters_len octets.now) octets.now) }
+    ensures characters { out.new.items ≡ out.old.items
+        ++ map (λ octet. octet / 2) (take (characters_len octets.now) octets.now) }
     ensures most { array_vec_len out.new ≤ array_vec_len out.old + 6 }
 {
     for octet in &octets[..6] {
-        let letter = octet / 2;
-        if !is_callsign_byte(letter) {
+        let character = octet / 2;
+        if !is_callsign_byte(character) {
             return;
         }
-        out.push(letter);
+        out.push(character);
     }
 }
 
@@ -218,7 +218,7 @@ pub fn push_text_at<const N: usize>(out: &mut ArrayVec<u8, N>, octets: &[u8])
     ensures text { out.new.items ≡ out.old.items ++ Spec.call_text (call_of octets.now) }
     ensures most { array_vec_len out.new ≤ array_vec_len out.old + 9 }
 {
-    push_letters(out, octets);
+    push_characters(out, octets);
     push_ssid(out, octets[6] / 2 % 16);
 }
 
@@ -294,16 +294,17 @@ const SPACES: [u8; 6] = [64; 6];
 
 /// Puts the letters and digits of a callsign at the end of `out`, with spaces after them up to six
 /// bytes, each shifted left by one bit.
-fn push_letters_and_spaces(out: &mut ArrayVec<u8, MAX_UI_FRAME>, letters: &[u8])
+fn push_characters_and_spaces(out: &mut ArrayVec<u8, MAX_UI_FRAME>, characters: &[u8])
     requires room { array_vec_len out.old + 6 ≤ MAX_UI_FRAME }
-    requires six { length letters.now ≤ 6 }
-    requires bytes { list_all Spec.is_callsign_byte letters.now ≡ true }
-    ensures { out.new.items ≡ out.old.items ++ map (λ b. 2 * b) (letters_and_spaces letters.now) }
+    requires six { length characters.now ≤ 6 }
+    requires bytes { list_all Spec.is_callsign_byte characters.now ≡ true }
+    ensures { out.new.items ≡ out.old.items
+        ++ map (λ b. 2 * b) (characters_and_spaces characters.now) }
 {
-    for letter in letters {
-        out.push(2 * letter);
+    for character in characters {
+        out.push(2 * character);
     }
-    let (_, spaces) = SPACES.split_at(letters.len());
+    let (_, spaces) = SPACES.split_at(characters.len());
     push_all(out, spaces);
 }
 
@@ -312,21 +313,21 @@ fn push_letters_and_spaces(out: &mut ArrayVec<u8, MAX_UI_FRAME>, letters: &[u8])
 fn parts_of(text: &[u8]) -> Result<(&[u8], u8), CallFault>
     ensures { AreCallParts text.now result }
 {
-    let (letters, dash) = split_dash(text);
-    if letters.is_empty() || letters.len() > 6 {
+    let (characters, dash) = split_dash(text);
+    if characters.is_empty() || characters.len() > 6 {
         return Err(CallFault::Length);
     }
-    if !are_letters(letters) {
+    if !are_characters(characters) {
         return Err(CallFault::Character);
     }
     match ssid_of(dash) {
-        Some(ssid) => Ok((letters, ssid)),
+        Some(ssid) => Ok((characters, ssid)),
         None => Err(CallFault::Ssid),
     }
 }
 
 /// Whether each byte is a capital or a digit.
-fn are_letters(bytes: &[u8]) -> bool
+fn are_characters(bytes: &[u8]) -> bool
     ensures { result ≡ list_all Spec.is_callsign_byte bytes.now }
 {
     bytes.iter().all(|b| is_callsign_byte(*b))

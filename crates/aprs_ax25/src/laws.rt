@@ -8,7 +8,8 @@ use crate::hop::Hop;
 
 /// Every byte list either is the frame of exactly one set of parts, or has exactly one first fault.
 pub fn each_is_a_frame_or_refused()
-    ensures { (bytes : List ℕ) → All (λ b. b < 256) bytes → IsReadAsFrame bytes ⊎ IsReadAsNone bytes }
+    ensures { (bytes : List ℕ) → All (λ b. b < 256) bytes
+        → IsReadAsFrame bytes ⊎ IsReadAsNone bytes }
 {}
 
 /// Reading accepts exactly the bytes that are a UI frame.

@@ -69,11 +69,11 @@ fn is_plain_callsign(octets: &[u8]) -> bool
     ensures { result ≡ true → IsPlainAddress octets.now }
 {
     let mut is_fine = is_callsign_octet(octets[0]);
-    let mut after_letter = true;
+    let mut after_character = true;
     for octet in &octets[..6] {
-        let is_letter = is_callsign_octet(*octet);
-        is_fine &= (*octet == SPACE_OCTET) | (after_letter & is_letter);
-        after_letter = is_letter;
+        let is_character = is_callsign_octet(*octet);
+        is_fine &= (*octet == SPACE_OCTET) | (after_character & is_character);
+        after_character = is_character;
     }
     is_fine
 }
@@ -104,8 +104,8 @@ fn may_follow(i: usize, before: u8, octet: u8) -> bool
 {
     let is_first = i == 6;
     let is_other = (i == 5) | (i >= 12);
-    let is_letter = is_callsign_octet(octet) & (is_first | is_callsign_octet(before));
-    is_other | is_letter | (!is_first & (octet == SPACE_OCTET))
+    let is_character = is_callsign_octet(octet) & (is_first | is_callsign_octet(before));
+    is_other | is_character | (!is_first & (octet == SPACE_OCTET))
 }
 
 /// A space, shifted left by one bit.

@@ -60,9 +60,9 @@ fn ends_address(frame: &[u8], end: usize) -> bool
 
 /// How many octets at the start of an address are, shifted right by one bit, capitals or digits: up
 /// to the first that isn't, and at most six.
-pub fn letters_len(octets: &[u8]) -> usize
+pub fn characters_len(octets: &[u8]) -> usize
     requires { 6 ≤ length octets.now }
-    ensures value { result ≡ Spec.letters_len octets.now }
+    ensures value { result ≡ Spec.characters_len octets.now }
     ensures six { result ≤ 6 }
 {
     let six = &octets[..6];
@@ -87,7 +87,7 @@ fn has_callsign(octets: &[u8]) -> bool
     requires { 6 ≤ length octets.now }
     ensures { result ≡ Spec.has_callsign octets.now }
 {
-    let len = letters_len(octets);
+    let len = characters_len(octets);
     let (_, spaces) = octets[..6].split_at(len);
     len > 0 && are_spaces(spaces)
 }

@@ -8,7 +8,7 @@ pub use Rattle.aprs_io.proofs.Outlets.{Puts-fails, Puts-is, Puts-none, Puts-then
 pub use Rattle.aprs_io.proofs.Sends.{Calls-none, Calls-then}
 pub use Rattle.aprs_io.specs.Cut.{is_byte}
 pub use Rattle.aprs_io.specs.Device.{Calls, Fault, Going, Rose, Sends}
-pub use Rattle.aprs_io.specs.Input.{EndsHere, EndsSo, Gets, last_of_ending, most_input}
+pub use Rattle.aprs_io.specs.Input.{EndsIfKnown, EndsSo, Gets, last_of_ending, most_input}
 pub use Rattle.aprs_io.specs.Outlet.{Puts}
 pub use Rattle.aprs_io.specs.declared.device.Counted.{Counted}
 pub use Rattle.aprs_io.specs.declared.input.InputEnd.{InputEnd}

@@ -1,5 +1,5 @@
 -- Lemmas on what was got of an input.
-use Rattle.aprs_bookfile.proofs.Common.{◌≡◌, ℕ, ◌+◌, ◌-◌, ◌≤◌, List, [], ◌++◌, length, drop, Option, None, Some, IfSome, Result, Err, inl, inr, refl, sym, ap, ◌∙◌, subst, append_assoc, append-nil, length-append, arith, drop-append-add, Calls, Going, Counted, EndsHere, EndsSo, Gets, last_of_ending, InputEnd, BookValue}
+use Rattle.aprs_bookfile.proofs.Common.{◌≡◌, ℕ, ◌+◌, ◌-◌, ◌≤◌, List, [], ◌++◌, length, drop, Option, None, Some, IfSome, Result, Err, inl, inr, refl, sym, ap, ◌∙◌, subst, append_assoc, append-nil, length-append, arith, drop-append-add, Calls, Going, Counted, EndsIfKnown, EndsSo, Gets, last_of_ending, InputEnd, BookValue}
 use Rattle.std.specs.Io.KnownBytes.{Consumes}
 use Rattle.std.proofs.KnownBytes.{Consumes-nil, Consumes-trans}
 use Rattle.aprs_io.specs.declared.input.InputEnd.TheVariants as ending
@@ -166,7 +166,7 @@ module _ {R : Type 0} (remaining : R → Option (List ℕ)) (limit : ℕ) (head 
   pub IsAnswered-end : (P : List ℕ → Type 0) (c : Counted R) (way : InputEnd)
       (r : Result BookValue BookFault)
       → Got P head (remaining a.device) (remaining b.device) limit left → AgreesWithEnding way r
-      → EndsHere way left (remaining b.device) (remaining c.device)
+      → EndsIfKnown way left (remaining b.device) (remaining c.device)
       → Calls (last_of_ending way) b c → ((t : List ℕ) → P t → IsAnswerFor r t way)
       → IsAnswered remaining limit head r a c
   IsAnswered-end P c way r p is end last reads = record {

@@ -1,5 +1,5 @@
 -- How far the rows of a book's text were read of an input.
-use Rattle.aprs_bookfile.proofs.Common.{◌≡◌, ℕ, ◌+◌, ◌<◌, ◌≤◌, ◌^◌, Bool, true, false, List, [], ◌∷◌, ◌++◌, length, drop, drop-append-add, Option, Result, Ok, Err, inl, inr, refl, sym, ap, ◌∙◌, subst, append-nil, append_assoc, length-append, arith, InputEnd, Row, Counted, Calls, Going, Calls-none, Calls-then, EndsHere, last_of_ending}
+use Rattle.aprs_bookfile.proofs.Common.{◌≡◌, ℕ, ◌+◌, ◌<◌, ◌≤◌, ◌^◌, Bool, true, false, List, [], ◌∷◌, ◌++◌, length, drop, drop-append-add, Option, Result, Ok, Err, inl, inr, refl, sym, ap, ◌∙◌, subst, append-nil, append_assoc, length-append, arith, InputEnd, Row, Counted, Calls, Going, Calls-none, Calls-then, EndsIfKnown, last_of_ending}
 use Rattle.std.specs.Io.KnownBytes.{Consumes}
 use Rattle.std.specs.Prelude.{OnOk, IfErr}
 use Rattle.aprs_bookfile.specs.Piece.{bytes_left}
@@ -203,7 +203,7 @@ pub faulty_end : {R A : Type 0} (remaining : R → Option (List ℕ)) (now next 
     → is_done reader.stage ≡ false
     → ((rows : List Row) (t : List ℕ) → HasReadTo old.reader rows t
     → HasReadTo reader rows (t ++ bytes_left old.piece))
-    → EndsHere e old.left (remaining now.device) (remaining next.device)
+    → EndsIfKnown e old.left (remaining now.device) (remaining next.device)
     → Calls (last_of_ending e) now next
     → IsFaultyAfter remaining
     (record { line = line_number reader.stage reader.count; cause = ending_cause e }) now next old
@@ -310,7 +310,7 @@ module _ {R A : Type 0} (remaining : R → Option (List ℕ)) (now : Counted R) 
 
     -- the input ends
     pub ends_here : (next : Counted R) (e : InputEnd) → bytes_left old.piece ≡ []
-        → EndsHere e old.left (remaining now.device) (remaining next.device)
+        → EndsIfKnown e old.left (remaining now.device) (remaining next.device)
         → Calls (last_of_ending e) now next
         → (r : Result (Unit {0}) BookFault) → AgreesWithEnding e r
         → ((rows : List Row) (t : List ℕ) → HasReadText old.reader rows t

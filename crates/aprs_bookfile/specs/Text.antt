@@ -23,7 +23,8 @@ use Rattle.aprs_bookfile.specs.declared.version.Version.TheVariants.{Three}
 -- and the greatest reception's receiver, and its frame in lower case hexadecimal.
 abbrev pub fields_of : MomentForm → Row → List (List ℕ)
 fields_of form x = codes "T" ∷ moment_text_in form x.first ∷ moment_text_in form (last_moment x)
-    ∷ join_with_byte (octet ",") x.receivers ∷ x.greatest.receiver ∷ encode_lower x.greatest.frame ∷ []
+    ∷ join_with_byte (octet ",") x.receivers
+    ∷ x.greatest.receiver ∷ encode_lower x.greatest.frame ∷ []
 
 -- The line of a row, without its LF: its fields with a space between.
 abbrev pub row_line : MomentForm → Row → List ℕ

@@ -25,7 +25,7 @@ pub struct Piece<A: Allocator> {
 impl<A: Allocator + Copy> Piece<A> {
     ghost use Rattle.std.specs.Io.KnownBytes.{Consumes};
     ghost use Rattle.aprs_io.specs.Device.{Calls, device_of};
-    ghost use Rattle.aprs_io.specs.Input.{EndsHere, last_got};
+    ghost use Rattle.aprs_io.specs.Input.{EndsIfKnown, last_got};
     ghost use Rattle.aprs_bookfile.specs.Piece.{bytes_left};
 
     /// These bytes, at most 8, and room for more.
@@ -70,7 +70,7 @@ impl<A: Allocator + Copy> Piece<A> {
             (R.remaining (device_of source.new)) (bytes_left self.new)) }
 
         ensures end { IfErr result (λ ending. (bytes_left self.new ≡ [])
-            × EndsHere ending left (R.remaining (device_of source.old))
+            × EndsIfKnown ending left (R.remaining (device_of source.old))
             (R.remaining (device_of source.new))) }
 
         ensures calls { Calls (last_got result) source.old source.new }

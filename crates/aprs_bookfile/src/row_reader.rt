@@ -41,14 +41,10 @@ use crate::stage::{Stage, ending_cause, is_done, is_first, judge_end, judge_head
 use crate::version::Version;
 use aprs_io::InputEnd;
 use aprs_log::MomentForm;
-use aprs_rows::{Memory, PackedRows, RowView};
+use aprs_rows::{MOST_NAMES, Memory, PackedRows, RowView};
 use aprs_transmissions::Gap;
 use std::alloc::Allocator;
 use std::mem::replace;
-
-/// The most bytes that the names of a row's receivers have, with commas between, since more don't
-/// fit where rows are kept.
-const MOST_NAMES: usize = 4_294_967_295;
 
 /// Which rows of a text are kept.
 #[derive(Clone, Copy, Debug, PartialEq, Eq)]

@@ -38,7 +38,8 @@ rounded parts = (parts + 9223372036854775808) / 18446744073709551616
 -- The product of two powers is below 2^95. What was cut off of the powers doesn't change it once it
 -- is rounded.
 abbrev pub is_settled : ℕ → ℕ → Bool
-is_settled x y = nat_lt (x * y) 39614081257132168796771975168 && rounded (x * y) == rounded (x * y + x + y)
+is_settled x y = nat_lt (x * y) 39614081257132168796771975168
+    && rounded (x * y) == rounded (x * y + x + y)
 
 -- The product of x and each power of the table is settled, as `is_settled` says.
 abbrev pub is_settled_by : ℕ → List ℕ → Bool

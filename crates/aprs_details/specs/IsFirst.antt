@@ -2,7 +2,8 @@
 use Rattle.std.specs.Prelude.{◌≡◌, ℕ, List, ◌∷◌, ◌++◌}
 
 -- This begins at some place of the text, and nothing of the kind begins before.
-pub record IsFirst {A : Type 0} (Begins : A → List ℕ → Type 0) (x : A) (text : List ℕ) : Type 0 where
+pub record IsFirst {A : Type 0} (Begins : A → List ℕ → Type 0) (x : A)
+    (text : List ℕ) : Type 0 where
   pub before : List ℕ
   pub rest : List ℕ
   pub whole : text ≡ before ++ rest

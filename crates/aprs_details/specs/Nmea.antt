@@ -55,7 +55,8 @@ sent_minutes text = do
 -- neither half.
 abbrev pub sent_half : (positive negative : ℕ) → List ℕ → Option Bool
 sent_half positive negative [] = None
-sent_half positive negative (b ∷ []) = if b == positive then Some false else value_when (b == negative) true
+sent_half positive negative (b ∷ []) =
+    if b == positive then Some false else value_when (b == negative) true
 sent_half positive negative (b ∷ c ∷ more) = None
 
 -- The millionths of a minute in an angle.
@@ -64,7 +65,8 @@ whole_angle degrees minutes = degrees * 60000000 + minutes
 
 -- The angle in ten-millionths of a degree, nearest: each is six millionths of a minute. A half is
 -- rounded away from 0. None where it is over `limit` degrees, or where a field isn't of its form.
-unfoldable pub sent_angle : (limit positive negative : ℕ) → (degree_text minute_text half : List ℕ) → Option ℤ
+unfoldable pub sent_angle : (limit positive negative : ℕ)
+    → (degree_text minute_text half : List ℕ) → Option ℤ
 sent_angle limit positive negative degree_text minute_text half = do
   degrees ← numeral_of 10 48 degree_text
   minutes ← sent_minutes minute_text

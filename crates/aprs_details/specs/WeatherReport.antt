@@ -20,13 +20,15 @@ pub record IsWeatherField (letter : ℕ) (places : List ℕ) : Type 0 where
 -- The text begins with fields, and the first of this letter has these places: it stands here, or
 -- after a field of another letter.
 pub data HasField (letter : ℕ) (places : List ℕ) : List ℕ → Type 0 where
-  here : (rest : List ℕ) → IsWeatherField letter places → HasField letter places (letter ∷ (places ++ rest))
+  here : (rest : List ℕ) → IsWeatherField letter places
+      → HasField letter places (letter ∷ (places ++ rest))
   later : (other : ℕ) (others rest : List ℕ) → IsWeatherField other others → (other ≡ letter → ⊥) →
       HasField letter places rest → HasField letter places (other ∷ (others ++ rest))
 
 -- The text says this value by a letter: that of the places in its first field; or none, if it has
 -- no such field.
-pub data Says {A : Type 0} (value_in : List ℕ → Option A) (letter : ℕ) (text : List ℕ) (value : Option A) : Type 0 where
+pub data Says {A : Type 0} (value_in : List ℕ → Option A) (letter : ℕ)
+    (text : List ℕ) (value : Option A) : Type 0 where
   field : (places : List ℕ) → HasField letter places text → value_in places ≡ value →
       Says value_in letter text value
   missing : ((places : List ℕ) → HasField letter places text → ⊥) → value ≡ None →
@@ -82,7 +84,8 @@ pub record IsWeatherReport (w : Weather) (info : List ℕ) : Type 0 where
 pub data IsWeatherComment (w : Weather) (comment : List ℕ) : Type 0 where
   with_wind : (wind_from wind : Option ℕ) (rest : List ℕ) → IsPair wind_from wind rest comment →
       SaysWeather w wind_from wind rest → IsWeatherComment w comment
-  in_fields : ((wind_from wind : Option ℕ) (rest : List ℕ) → IsPair wind_from wind rest comment → ⊥) →
+  in_fields : ((wind_from wind : Option ℕ) (rest : List ℕ)
+      → IsPair wind_from wind rest comment → ⊥) →
       SaysWind w comment → IsWeatherComment w comment
 
 -- The comment of a weather station's compressed position says this weather: it begins with the

@@ -100,9 +100,9 @@ NewsComeFreely gap = (old own : List Row) (books came : List (List Row)) → Sou
     → Sound gap own → AreSoundBooks books → HasMerged gap own old
     → SameMembers came (news_of gap old books) → take_all gap own came ≡ take_all gap own books
 
--- The book of `old` and several other books is made, and of it what is new to `old` is sent. Whoever
--- has taken `old`, and then takes what was sent, among others and in any order and with any repeats,
--- has the book that the several books themselves give in its place.
+-- The book of `old` and several other books is made, and of it what is new to `old` is sent.
+-- Whoever has taken `old`, and then takes what was sent, among others and in any order and with any
+-- repeats, has the book that the several books themselves give in its place.
 abbrev pub NewsStandForBooks : ℕ → Type 0
 NewsStandForBooks gap = (old own : List Row) (books others came : List (List Row)) → Sound gap old
     → Sound gap own → AreSoundBooks books → AreSoundBooks others → HasMerged gap own old

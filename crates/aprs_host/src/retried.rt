@@ -4,10 +4,8 @@ ghost use Rattle.std.specs.Io.{WritesAtMost};
 ghost use Rattle.std.specs.Io.KnownBytes.{WriteAppends};
 ghost use Rattle.std.specs.IoError.{error_kind};
 
+use aprs_io::MAX_TRIES;
 use std::io::{self, Error, ErrorKind, Write};
-
-/// How many interrupted tries in a row end a call with a fault.
-const MAX_TRIES: u32 = 1000;
 
 /// A device below a buffer. An interrupted write is tried again, up to 999 times in a row; the
 /// 1,000th is an error that isn't an interruption, so that no caller tries again without end. An

@@ -32,8 +32,8 @@ pub record Gets (limit : ℕ) (input : List ℕ) (after : Option (List ℕ)) (te
 
 -- Nothing more is read of the input, since it ends in this way here. Where it isn't known what the
 -- device has left, this says nothing.
-abbrev pub EndsHere : InputEnd → ℕ → Option (List ℕ) → Option (List ℕ) → Type 0
-EndsHere ending left known after = IfSome known (λ input. Gets left input after [] ending)
+abbrev pub EndsIfKnown : InputEnd → ℕ → Option (List ℕ) → Option (List ℕ) → Type 0
+EndsIfKnown ending left known after = IfSome known (λ input. Gets left input after [] ending)
 
 -- What the device answered last where an input ends in this way: where it is too long, a byte.
 abbrev pub last_of_ending : InputEnd → Last
@@ -48,11 +48,11 @@ last_got (Err way) = last_of_ending way
 
 -- Some bytes came, as many as are answered, and no more were taken of the device; or the input ends
 -- in the way that is answered.
-pub record GetsSome {R : Type 0} (remaining : R → Option (List ℕ)) (r : Result ℕ InputEnd) (left : ℕ)
-    (old new : Counted R) (room : List ℕ) : Type 0 where
+pub record GetsSome {R : Type 0} (remaining : R → Option (List ℕ)) (r : Result ℕ InputEnd)
+    (left : ℕ) (old new : Counted R) (room : List ℕ) : Type 0 where
   pub some : IfOk r (λ n. (0 < n) × (n ≤ left) × (n ≤ length room))
   pub bytes : IfOk r (λ n. Consumes (remaining old.device) (remaining new.device) (take n room))
-  pub end : IfErr r (λ e. EndsHere e left (remaining old.device) (remaining new.device))
+  pub end : IfErr r (λ e. EndsIfKnown e left (remaining old.device) (remaining new.device))
   pub calls : Calls (last_got r) old new
   pub tries : new.failed ≤ old.failed + most_failures (last_got r) 1
 
@@ -66,7 +66,7 @@ last_read (Err fault) room = Fault
 
 -- One read: the bytes that came stand first in the room, and at a fault none is lost. Without any
 -- room the device is not asked.
-pub record ReadsOnce {R E : Type 0} (remaining : R → Option (List ℕ)) (r : Result ℕ E)
+pub record ReadsDevice {R E : Type 0} (remaining : R → Option (List ℕ)) (r : Result ℕ E)
     (old new : Counted R) (room : List ℕ) : Type 0 where
   pub bound : ReadsAtMost r room
   pub bytes : ReadConsumes (remaining old.device) (remaining new.device) r room

@@ -1,12 +1,12 @@
 //! A reader or a writer that counts its failed calls.
 ghost use Rattle.std.specs.Prelude.{◌≡◌, ◌+◌, ◌≤◌};
 ghost use Rattle.aprs_io.specs.Device as Spec;
-ghost use Rattle.aprs_io.specs.Input.{ReadsOnce};
+ghost use Rattle.aprs_io.specs.Input.{ReadsDevice};
 
 use std::io::{ErrorKind, Read, Write};
 
 /// How many interrupted tries in a row end a call with a fault.
-const MAX_TRIES: u32 = 1000;
+pub const MAX_TRIES: u32 = 1000;
 
 /// A read of the device failed: with an error that isn't an interruption, or 1,000 times in a row.
 #[derive(Clone, Copy, Debug, PartialEq, Eq)]
@@ -107,7 +107,7 @@ impl<R: Read> Counted<R> {
     /// error at once, is a fault. At a fault no byte is lost. An answer that is a fault or the
     /// end is counted too. Takes no memory.
     pub fn read(&mut self, buf: &mut [u8]) -> Result<usize, DeviceFault>
-        ensures { ReadsOnce R.remaining result self.old self.new buf.new }
+        ensures { ReadsDevice R.remaining result self.old self.new buf.new }
     {
         if buf.is_empty() {
             return Ok(0);

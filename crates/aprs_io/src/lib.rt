@@ -13,7 +13,7 @@ mod shown;
 
 pub use byte_vectors::{copy_bytes, push_all, put};
 pub use cut::cut_at;
-pub use device::{Counted, DeviceFault, WriteFault, send};
+pub use device::{Counted, DeviceFault, MAX_TRIES, WriteFault, send};
 pub use hexadecimal::{decode_into, decode_lower_into, put_hex};
 pub use input::{InputEnd, MAX_INPUT, read_some};
 pub use outlet::{MAX_HELD, Outlet};

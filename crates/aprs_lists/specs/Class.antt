@@ -29,7 +29,8 @@ is_weather_bulletin addressee = starts_with nat_eq addressee (codes "NWS-")
 
 -- The text tells what values of telemetry mean.
 abbrev pub is_telemetry : List ℕ → Bool
-is_telemetry text = starts_with nat_eq text (codes "PARM.") || starts_with nat_eq text (codes "UNIT.")
+is_telemetry text = starts_with nat_eq text (codes "PARM.")
+    || starts_with nat_eq text (codes "UNIT.")
     || starts_with nat_eq text (codes "EQNS.") || starts_with nat_eq text (codes "BITS.")
 
 -- The text asks a station for a report.

@@ -34,4 +34,5 @@ message_named x = record {
 
 -- The copy that the parts of the code show.
 abbrev pub copy_of : MessageCopy → Copy
-copy_of x = record { message = message_named x.message; first = x.first; gate = x.gate; last = x.last }
+copy_of x =
+    record { message = message_named x.message; first = x.first; gate = x.gate; last = x.last }

@@ -9,8 +9,8 @@ use Rattle.aprs_lists.specs.Runs.{AreSent, Sent}
 use Rattle.aprs_lists.specs.Told.{AreTold, Told, told_table}
 use Rattle.aprs_lists.specs.Traffic.{AreGiven, GivesCopy, GivesNetReply}
 
--- These are the messages of a net, told in order, of the rows of a book of this gap: the runs of all
--- copies under the message gap, each with its first answers. Both gaps are in milliseconds.
+-- These are the messages of a net, told in order, of the rows of a book of this gap: the runs of
+-- all copies under the message gap, each with its first answers. Both gaps are in milliseconds.
 pub record AreNetMessages (gap message_gap : ℕ) (rows : List Row) (told : List Told) : Type 0 where
   pub copies : List Copy
   pub replies : List Reply

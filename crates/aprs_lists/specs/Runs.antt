@@ -21,7 +21,8 @@ pub record Sent : Type 0 where
 
 -- A copy of the message was on the air at this moment.
 abbrev pub SentAt : List Copy → Message → ℕ → Type 0
-SentAt copies m moment = (c : Copy) × (c ∈ copies) × (c.message ≡ m) × (c.first ≤ moment) × (moment ≤ c.last)
+SentAt copies m moment =
+    (c : Copy) × (c ∈ copies) × (c.message ≡ m) × (c.first ≤ moment) × (moment ≤ c.last)
 
 -- The moments that something was at, from one to another, are a run. It was there at the first and
 -- at the last, which isn't before it; after each before the last comes one at most `gap`

@@ -44,8 +44,10 @@ pub record Answering : Type 0 where
 -- The report answers so: it is an ack or a rej, or a message without an id whose text is a
 -- reply-ack.
 pub data SaysAnswer (a : Answering) (v : Value) : Type 0 where
-  by_ack : v ≡ ack a.addressee a.number → a.is_reply ≡ false → a.is_rejection ≡ false → SaysAnswer a v
-  by_rej : v ≡ rej a.addressee a.number → a.is_reply ≡ false → a.is_rejection ≡ true → SaysAnswer a v
+  by_ack : v ≡ ack a.addressee a.number → a.is_reply ≡ false
+      → a.is_rejection ≡ false → SaysAnswer a v
+  by_rej : v ≡ rej a.addressee a.number → a.is_reply ≡ false
+      → a.is_rejection ≡ true → SaysAnswer a v
   by_reply : (text : List ℕ) → v ≡ message a.addressee text None → IsReplyAckText a.number text →
       a.is_reply ≡ true → a.is_rejection ≡ false → SaysAnswer a v
 

@@ -112,8 +112,8 @@ fn put<A: Allocator + Copy>(
     Ok(())
 }
 
-/// Adds one more row to what is kept of this station, which sent it, and has to have passed on fewer
-/// than 2^64 - 1 frames so far.
+/// Adds one more row to what is kept of this station, which sent it, and has to have passed on
+/// fewer than 2^64 - 1 frames so far.
 #[tactic(auto, unfolding(aprs_transmissions::specs::Key::key_of))]
 pub(crate) fn count_row<A: Allocator + Copy>(
     activities: &mut Activities<A>,

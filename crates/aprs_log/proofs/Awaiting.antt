@@ -3,11 +3,11 @@ use Rattle.aprs_log.proofs.Common.{◌≡◌, ℕ, ◌+◌, ◌-◌, ◌<◌, �
 use Rattle.aprs_io.specs.Cut.{cut_at}
 use Rattle.std.proofs.Common.{append-nil}
 use Rattle.std.specs.Io.KnownBytes.{Consumes}
-use Rattle.aprs_log.specs.States.{KeepsMemory, state_after}
+use Rattle.aprs_log.specs.States.{HasNotRunOutOfMemory, state_after}
 use Rattle.aprs_log.specs.Fault.{log_cause_of}
 use Rattle.aprs_log.specs.Line.{line_of}
 use Rattle.aprs_log.specs.LogAnswers.{Answers, answers_from, end_with, fault_at, tail_cause, then_answers, prepend_line}
-use Rattle.aprs_log.specs.Awaits.{AwaitsIn, EndsHere, fault_after}
+use Rattle.aprs_log.specs.Awaits.{AwaitsIn, EndsIfKnown, fault_after}
 use Rattle.aprs_log.specs.Reader.{AreAnswersOf}
 use Rattle.aprs_log.specs.declared.line.Line.{Line}
 use Rattle.aprs_log.specs.declared.fault.LineFault.{LineFault}
@@ -72,7 +72,7 @@ awaits_long known left line held none long = always known left line held _
     (λ text c. sym (answers_from-long (line + 1) held text c (no_lf held none) long))
 
 pub awaits_end : (known end : Option (List ℕ)) (left line : ℕ) (held : List ℕ) (c : InputEnd)
-    → cut_at 10 held ≡ None → EndsHere c left known end
+    → cut_at 10 held ≡ None → EndsIfKnown c left known end
     → AwaitsIn Reading known end left line held (end_with (fault_at (line + 1) (tail_cause held c)))
 awaits_end None end left line held c none ends = tt
 awaits_end (Some input) end left line held c none ends = record {
@@ -192,7 +192,7 @@ stopped_at next (Some c) known end left line held a to w =
 
 pub step_end : (s next : State) (known after end : Option (List ℕ)) (left line : ℕ)
     (held now slice : List ℕ) (e : InputEnd) (o : Option LogCause) (a : Answers) → s ≡ Reading
-    → cut_at 10 held ≡ None → now ≡ held → slice ≡ now → EndsHere e left known after
+    → cut_at 10 held ≡ None → now ≡ held → slice ≡ now → EndsIfKnown e left known after
     → o ≡ tail_cause slice e → next ≡ state_after o
     → AwaitsIn next after end left line now a → AwaitsIn s known end left line held a
 step_end s next known after end left line held now slice e o a going none same is ends why to w =
@@ -202,10 +202,10 @@ step_end s next known after end left line held now slice e o a going none same i
     (subst (λ a. AwaitsIn Reading known end left line held a)
     (sym (stopped.1 ∙ ap (λ o. end_with (fault_at (line + 1) o)) cause))
     (awaits_end known end left line held e none
-    (subst (λ end. EndsHere e left known end) (sym stopped.0) ends)))
+    (subst (λ end. EndsIfKnown e left known end) (sym stopped.0) ends)))
 
 -- no line's fault is a failed allocation
-pub faults_keep : (f : LineFault) (c : LogCause) → c ≡ log_cause_of f → KeepsMemory (Failed c)
+pub faults_keep : (f : LineFault) (c : LogCause) → c ≡ log_cause_of f → HasNotRunOutOfMemory (Failed c)
 faults_keep fault.LongLine c e k = cc
 faults_keep fault.NoNewline c e k = cc
 faults_keep fault.Moment c e k = cc

@@ -7,7 +7,7 @@ use Rattle.aprs_log.specs.declared.fault.LogCause.{LogCause}
 use Rattle.aprs_log.specs.declared.fault.LogCause.TheVariants as cause
 use Rattle.aprs_log.specs.declared.fault.LogFault.{LogFault}
 use Rattle.aprs_io.specs.declared.input.InputEnd.{InputEnd}
-pub use Rattle.aprs_io.specs.Input.{EndsHere}
+pub use Rattle.aprs_io.specs.Input.{EndsIfKnown}
 use Rattle.aprs_io.specs.Device.{Last, Going, Fault, End}
 use Rattle.aprs_log.specs.declared.reader.ending.State.{State}
 use Rattle.aprs_log.specs.declared.reader.ending.State.TheVariants.{Reading, Ended, Failed}

@@ -8,8 +8,8 @@ use Rattle.aprs_log.specs.declared.fault.LogCause.{LogCause}
 use Rattle.aprs_log.specs.declared.fault.LogCause.TheVariants as cause
 
 -- In this state no failed allocation stopped the reader.
-abbrev pub KeepsMemory : State → Type 0
-KeepsMemory state = state ≢ Failed cause.Memory
+abbrev pub HasNotRunOutOfMemory : State → Type 0
+HasNotRunOutOfMemory state = state ≢ Failed cause.Memory
 
 -- What a reader does after the tail: it stops well, or with this cause.
 abbrev pub state_after : Option LogCause → State

@@ -11,7 +11,7 @@
 //! - `lent_device` is the device that the reader borrows, and `loan_of` names this loan.
 ghost use Rattle.std.specs.Prelude.{◌≡◌, ◌≢◌, ◌+◌, ◌≤◌, ◌<◌, ◌++◌, ℕ, List, length, Option, None, Some, IfSome};
 ghost use Rattle.aprs_io.specs.Input.{most_input};
-ghost use Rattle.aprs_log.specs.States.{KeepsMemory};
+ghost use Rattle.aprs_log.specs.States.{HasNotRunOutOfMemory};
 ghost use Rattle.aprs_log.specs.Window.{items};
 
 mod ending;
@@ -42,7 +42,7 @@ pub struct LogReader<'a, R> {
     line: u64,
     state: State,
     ghost few: { line + length (items window) + left ≤ most_input },
-    ghost no_memory: { KeepsMemory state },
+    ghost no_memory: { HasNotRunOutOfMemory state },
 }
 
 impl<'a, R: Read> LogReader<'a, R> {

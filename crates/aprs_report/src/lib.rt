@@ -14,7 +14,7 @@ mod stamp;
 mod symbol;
 
 pub use kinds::object::live_text;
-pub use place::{Fraction, Place};
+pub use place::{Fraction, PER_DEGREE, Place};
 pub use report::Report;
 pub use stamp::Stamp;
 pub use symbol::Symbol;

@@ -10,7 +10,8 @@ mod coordinate;
 use crate::bytes::{chunk, is_digit_byte};
 use crate::symbol::{Symbol, code_at_start, compressed_table_at_start, table_at_start};
 use compressed::base91;
-use coordinate::{Axis, PER_DEGREE, ambiguity, angle};
+pub use coordinate::PER_DEGREE;
+use coordinate::{Axis, ambiguity, angle};
 
 /// The number of the equator and of the meridian of Greenwich in a compressed position.
 const MIDDLE: i64 = 34_283_340;

@@ -2,7 +2,7 @@
 use Rattle.aprs_rows.proofs.Common.{◌≡◌, ◌∙◌, ℕ, zero, suc, ◌+◌, ◌*◌, ◌-◌, ◌/◌, ◌%◌, ◌<◌, ◌≤◌, List, [], ◌∷◌, ◌++◌, length, take, drop, replicate, get_or, slice_index, append_assoc, true, refl, sym, ap, arith, w64, from_be_bytes, nat_cmp, ordering_then, Ordering, Less, Equal, Greater, list_all, nat_tests, and_parts, IsTotalOrder, tied_itself, then_total, on_total, nat_cmp_total, length-append, length-replicate, take_at, drop_at, take-take, Parts, FrameOf, address_field, call_of, parts_of, bytes_cmp, Key, ordering_then_assoc}
 use Rattle.aprs_transmissions.specs.Key.{key_of, key_cmp}
 use Rattle.std.proofs.lemmas.Map.Lookups.{CmpEqualImpliesEq, exact_pairs, exact_unsigned}
-use Rattle.aprs_ax25.specs.Address.{Address, IsAddress, letters_and_spaces, address_octets}
+use Rattle.aprs_ax25.specs.Address.{Address, IsAddress, characters_and_spaces, address_octets}
 use Rattle.aprs_ax25.specs.Callsign.{Call, IsCall, call_cmp, is_callsign_byte}
 use Rattle.aprs_ax25.specs.Frame.{control_ui, pid_none}
 use Rattle.aprs_ax25.proofs.Addresses.{double, half, length-address_octets}
@@ -61,13 +61,13 @@ spaced_cmp (x ∷ a) (y ∷ b) i j m n e h k =
     ∙ sym (ordering_then_assoc (nat_cmp x y) (bytes_cmp a b) (nat_cmp m n))
 
 abbrev digits : Call → List ℕ
-digits c = 0 ∷ letters_and_spaces c.letters ++ c.ssid ∷ []
+digits c = 0 ∷ characters_and_spaces c.characters ++ c.ssid ∷ []
 
 Bytes-digits : (c : Call) → IsCall c → Bytes (digits c)
 Bytes-digits c h zero = omega arith
 Bytes-digits c h (suc i) =
-    Bytes-append (letters_and_spaces c.letters) (c.ssid ∷ [])
-    (Bytes-append c.letters _ (Bytes-letters c.letters h.bytes) (Bytes-spaces _)) ssid i where
+    Bytes-append (characters_and_spaces c.characters) (c.ssid ∷ [])
+    (Bytes-append c.characters _ (Bytes-letters c.characters h.bytes) (Bytes-spaces _)) ssid i where
       ssid : Bytes (c.ssid ∷ [])
       ssid zero = omega (arith, h.ssid)
       ssid (suc i) = omega arith
@@ -77,9 +77,9 @@ length-digits c h =
     omega (
       arith,
       h.most,
-      length-append (letters_and_spaces c.letters) (c.ssid ∷ []),
-      length-append c.letters (replicate (6 - length c.letters) 32),
-      length-replicate {A = ℕ} (6 - length c.letters) 32,
+      length-append (characters_and_spaces c.characters) (c.ssid ∷ []),
+      length-append c.characters (replicate (6 - length c.characters) 32),
+      length-replicate {A = ℕ} (6 - length c.characters) 32,
     )
 
 -- the numbers of callsigns are in order as the callsigns are
@@ -88,7 +88,7 @@ call_number_cmp : (a b : Call) → IsCall a → IsCall b
 call_number_cmp a b h k =
     be_cmp_all (digits a) (digits b) (length-digits a h) (length-digits b k) (Bytes-digits a h)
     (Bytes-digits b k)
-    ∙ spaced_cmp a.letters b.letters (6 - length a.letters) (6 - length b.letters) a.ssid b.ssid
+    ∙ spaced_cmp a.characters b.characters (6 - length a.characters) (6 - length b.characters) a.ssid b.ssid
     (omega (arith, h.most, k.most)) h.bytes k.bytes
 
 -- ---- prefixes
@@ -129,9 +129,9 @@ half_double (x ∷ xs) =
 
 -- the letters of an address that stands first, each shifted left by one bit
 first_doubled : (extension : ℕ) (a : Address) → IsAddress a → (more : List ℕ)
-    → take 6 (take 7 (address_octets extension a ++ more)) ≡ double (letters_and_spaces a.call.letters)
+    → take 6 (take 7 (address_octets extension a ++ more)) ≡ double (characters_and_spaces a.call.characters)
 first_doubled extension a h more =
-    let letters = double (letters_and_spaces a.call.letters) in
+    let letters = double (characters_and_spaces a.call.characters) in
     let last = 32 * a.flags + 2 * a.call.ssid + extension in
     ap (λ t. take 6 (take 7 t)) (append_assoc letters (last ∷ []) more)
     ∙ take-take 6 7 (letters ++ last ∷ more) (omega arith)
@@ -139,7 +139,7 @@ first_doubled extension a h more =
     (omega (arith, length-address_octets extension a h, length-append letters (last ∷ [])))
 
 field_doubled : (a : Address) (others : List Address) → IsAddress a → (more : List ℕ)
-    → take 6 (take 7 (address_field (a ∷ others) ++ more)) ≡ double (letters_and_spaces a.call.letters)
+    → take 6 (take 7 (address_field (a ∷ others) ++ more)) ≡ double (characters_and_spaces a.call.characters)
 field_doubled a [] h more = first_doubled 1 a h more
 field_doubled a (b ∷ others) h more =
     ap (λ t. take 6 (take 7 t))
@@ -183,7 +183,7 @@ even_at letters octets e i h = ap (λ n. n % 2) (first_six octets i h ∙ ap (λ
       doubled_even (x ∷ xs) zero = let e : (2 * x) % 2 ≡ 0 = omega arith in e
       doubled_even (x ∷ xs) (suc i) = doubled_even xs i
 
-spelled_number : (octets : List ℕ) → half (take 6 octets) ≡ letters_and_spaces (call_of octets).letters
+spelled_number : (octets : List ℕ) → half (take 6 octets) ≡ characters_and_spaces (call_of octets).characters
     → octets_number octets ≡ call_number (call_of octets)
 spelled_number octets e =
     ap (λ t. from_be_bytes w64 (0 ∷ t ++ slice_index octets 6 / 2 % 16 ∷ [])) e
@@ -216,7 +216,7 @@ module _ (f : List ℕ) (h : FrameOf (parts_of f) f) where
         field_at_least p.source p.digipeaters h.parts.source,
       )
 
-  source_doubled : take 6 (take 7 (drop 7 f)) ≡ double (letters_and_spaces p.source.call.letters)
+  source_doubled : take 6 (take 7 (drop 7 f)) ≡ double (characters_and_spaces p.source.call.characters)
   source_doubled =
       ap (λ t. take 6 (take 7 (drop 7 t)))
       (h.spelled ∙ append_assoc (address_octets 0 p.destination)
@@ -226,27 +226,27 @@ module _ (f : List ℕ) (h : FrameOf (parts_of f) f) where
       (length-address_octets 0 p.destination h.parts.destination))
       ∙ field_doubled p.source p.digipeaters h.parts.source _
 
-  destination_doubled : take 6 (take 7 f) ≡ double (letters_and_spaces p.destination.call.letters)
+  destination_doubled : take 6 (take 7 f) ≡ double (characters_and_spaces p.destination.call.characters)
   destination_doubled = ap (λ t. take 6 (take 7 t)) h.spelled
       ∙ field_doubled p.destination (p.source ∷ p.digipeaters) h.parts.destination _
 
   pub source_even : (i : ℕ) → i < 6 → slice_index (take 8 (drop 7 f)) i % 2 ≡ 0
-  source_even = even_at (letters_and_spaces p.source.call.letters) (drop 7 f) source_doubled
+  source_even = even_at (characters_and_spaces p.source.call.characters) (drop 7 f) source_doubled
 
   pub destination_even : (i : ℕ) → i < 6 → slice_index (take 8 f) i % 2 ≡ 0
-  destination_even = even_at (letters_and_spaces p.destination.call.letters) f destination_doubled
+  destination_even = even_at (characters_and_spaces p.destination.call.characters) f destination_doubled
 
   source_number : octets_number (take 8 (drop 7 f)) ≡ call_number p.source.call
   source_number =
       seven_say (drop 7 f)
       ∙ spelled_number (take 7 (drop 7 f))
-      (ap half source_doubled ∙ half_double (letters_and_spaces p.source.call.letters))
+      (ap half source_doubled ∙ half_double (characters_and_spaces p.source.call.characters))
 
   destination_number : octets_number (take 8 f) ≡ call_number p.destination.call
   destination_number =
       seven_say f
       ∙ spelled_number (take 7 f)
-      (ap half destination_doubled ∙ half_double (letters_and_spaces p.destination.call.letters))
+      (ap half destination_doubled ∙ half_double (characters_and_spaces p.destination.call.characters))
 
   pub head_made : (bytes info : List ℕ) (s d i : ℕ) → bytes ≡ f → info ≡ p.info
       → s ≡ octets_number (take 8 (drop 7 bytes)) → d ≡ octets_number (take 8 bytes)

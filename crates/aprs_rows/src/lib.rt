@@ -18,6 +18,6 @@ pub use row::names::put_names;
 pub use row::row_view::RowView;
 pub use store::book_rows::BookRows;
 pub use store::book_store::BookStore;
-pub use store::open_row::OpenRow;
+pub use store::open_row::{MOST_NAMES, OpenRow};
 pub use store::packed::PackedRows;
 pub use store::walk_room::WalkRoom;

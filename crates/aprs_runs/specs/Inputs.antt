@@ -21,7 +21,8 @@ has_book_mark text = starts_with ◌==◌ text (codes "APRSBOOK")
 -- A whole book file of this gap, in seconds, which is one that a book can have: the text, in some
 -- version, of rows that are the book of S. A line can spell each row in the version's form, and
 -- each row's frame is a UI frame.
-pub record IsBookFileOf (gap : ℕ) (S : List Received) (text : List ℕ) (ending : InputEnd) : Type 0 where
+pub record IsBookFileOf (gap : ℕ) (S : List Received) (text : List ℕ) (ending : InputEnd)
+    : Type 0 where
   pub version : Version
   pub rows : List Row
   pub gap_is : gap_of version ≡ gap

@@ -12,7 +12,8 @@ use Rattle.aprs_runs.specs.declared.fault.RunFault.TheVariants.{Input, Write, Me
 -- There is a set for which the inputs `Stand`; and for each such set, `Tell` holds of it and of
 -- this text.
 abbrev pub IsToldOf : (List Received → Type 0) → (List Received → List ℕ → Type 0) → List ℕ → Type 0
-IsToldOf Stand Tell text = ((S : List Received) × Stand S) × ((S : List Received) → Stand S → Tell S text)
+IsToldOf Stand Tell text =
+    ((S : List Received) × Stand S) × ((S : List Received) → Stand S → Tell S text)
 
 -- A text of which `Told` holds went out whole, or a prefix of it where the output was refused. In
 -- all no more tries failed than 999 for each byte of the text, and one more where the output was

@@ -51,6 +51,7 @@ pub record TellsPosition (text : List ℕ) (call : Call) (known : Option Receive
 -- The listing of any set has, for each source in the set, the position that is the set's greatest
 -- reception of a position report from it, if there is one.
 abbrev pub ListingsTellPositions : ℕ → Type 0
-ListingsTellPositions gap = (S : List Received) (text : List ℕ) (call : Call) (known : Option Received)
+ListingsTellPositions gap = (S : List Received) (text : List ℕ) (call : Call)
+    (known : Option Received)
     → IsListingOf gap S text → IsSource S call → LastKnown S (Passes (reports_position call)) known
     → TellsPosition text call known

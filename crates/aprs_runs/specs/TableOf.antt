@@ -32,8 +32,8 @@ pub record IsMessagesTableOf (S : List Received) (text : List ℕ) : Type 0 wher
   pub are_messages : AreMessages S messages
   pub text_is : text ≡ messages_table messages
 
--- The text is the table of the messages of a net in S, under these gaps in seconds: that of the book
--- of S, and the message gap.
+-- The text is the table of the messages of a net in S, under these gaps in seconds: that of the
+-- book of S, and the message gap.
 pub record IsNetTableOf (gap message_gap : ℕ) (S : List Received) (text : List ℕ) : Type 0 where
   pub rows : List Row
   pub told : List Told

@@ -3,7 +3,7 @@ ghost use Rattle.std.specs.Prelude.{◌≡◌, ◌<◌, ◌≤◌, [], ◌∷◌
 ghost use Rattle.std.specs.List.{list_any};
 ghost use Rattle.std.specs.Io.KnownBytes.{Consumes};
 ghost use Rattle.aprs_io.specs.Device.{Calls, device_of};
-ghost use Rattle.aprs_io.specs.Input.{EndsHere, Gets, last_got};
+ghost use Rattle.aprs_io.specs.Input.{EndsIfKnown, Gets, last_got};
 ghost use Rattle.aprs_log.specs.LogAnswers.{is_lf};
 ghost use Rattle.aprs_runs.specs.Head.{IsHead, last_of_head};
 
@@ -65,7 +65,7 @@ fn read_byte<R: Read>(r: &mut Counted<R>, left: u64) -> Result<u8, InputEnd>
     ensures some { OnOk result (0 < left) }
     ensures byte { IfOk result (λ byte. Consumes (R.remaining (device_of r.old))
         (R.remaining (device_of r.new)) (byte ∷ [])) }
-    ensures end { IfErr result (λ ending. EndsHere ending left (R.remaining (device_of r.old))
+    ensures end { IfErr result (λ ending. EndsIfKnown ending left (R.remaining (device_of r.old))
         (R.remaining (device_of r.new))) }
     ensures calls { Calls (last_got result) r.old r.new }
 {

@@ -171,9 +171,9 @@ same_bytes : (a b : Call) → call_bytes a ≡ call_bytes b → a ≡ b
 same_bytes a b e =
     let s : a.ssid ≡ b.ssid = cc in
     let t : call_text a ≡ call_text b = cc in
-    let l = same_front a.letters b.letters (ssid_text b.ssid)
-    (subst (λ (n : ℕ). a.letters ++ ssid_text n ≡ call_text b) s t) in
-    λ i. record { letters = l i; ssid = s i }
+    let l = same_front a.characters b.characters (ssid_text b.ssid)
+    (subst (λ (n : ℕ). a.characters ++ ssid_text n ≡ call_text b) s t) in
+    λ i. record { characters = l i; ssid = s i }
 
 apart : (a b : Call) → (a ≡ b → ⊥) → is_eq (bytes_cmp (call_bytes a) (call_bytes b)) ≡ false
 apart a b n =

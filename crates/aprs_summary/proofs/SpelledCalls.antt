@@ -9,7 +9,7 @@ use Rattle.aprs_summary.specs.MessageRows.{call_when, spelled_call}
 use Rattle.aprs_summary.specs.ReplyTexts.{HoldsOnly}
 
 abbrev with_letters : List ℕ → ℕ → Call
-with_letters letters ssid = record { letters = letters; ssid = ssid }
+with_letters letters ssid = record { characters = letters; ssid = ssid }
 
 read_so : (fault : Option CallFault) (letters : List ℕ) (ssid : Option ℕ) (c : Call)
     → call_when fault letters ssid ≡ Some c

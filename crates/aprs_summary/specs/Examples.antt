@@ -103,7 +103,8 @@ two_stations = status_at 7 0 ∷ status_at 7 30000 ∷ position_at 0 ∷ status_
 
 -- The rows of `two_stations`.
 abbrev pub two_stations_rows : List Row
-two_stations_rows = example_row 0 (rx1 ∷ []) (position_at 0) ∷ example_row 0 (rx1 ∷ []) (status_at 7 30000)
+two_stations_rows =
+    example_row 0 (rx1 ∷ []) (position_at 0) ∷ example_row 0 (rx1 ∷ []) (status_at 7 30000)
     ∷ example_row 0 (rx1 ∷ []) (status_at 8 0) ∷ []
 
 -- A station of the list, N0CALL with this SSID.
@@ -135,4 +136,5 @@ two_leaders = item_at 20 ∷ object_at 0 ∷ killed_at 10 ∷ []
 
 -- LEADER in the list, an item or an object.
 abbrev pub leader_listed : Bool → Received → Named
-leader_listed is_item heard = record { is_item = is_item; name = lent (codes "LEADER"); heard = heard }
+leader_listed is_item heard =
+    record { is_item = is_item; name = lent (codes "LEADER"); heard = heard }

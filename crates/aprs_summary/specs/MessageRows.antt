@@ -144,7 +144,7 @@ AreAnswers rows entries = IsCollected answer_of GivesAnswer IsGreatestAnswer row
 abbrev pub call_when : Option CallFault → List ℕ → Option ℕ → Option Call
 call_when (Some fault) letters ssid = None
 call_when None letters None = None
-call_when None letters (Some ssid) = Some (record { letters = letters; ssid = ssid })
+call_when None letters (Some ssid) = Some (record { characters = letters; ssid = ssid })
 
 -- The callsign whose text these bytes are, or none.
 abbrev pub spelled_call : List ℕ → Option Call

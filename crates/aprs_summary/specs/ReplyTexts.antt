@@ -29,7 +29,8 @@ number_at [] = None
 number_at (x ∷ []) = None
 number_at (x ∷ y ∷ []) = None
 number_at (x ∷ y ∷ z ∷ number) =
-    value_when (x == octet "a" && y == octet "c" && z == octet "k" && is_message_number number) number
+    value_when (x == octet "a" && y == octet "c" && z == octet "k"
+        && is_message_number number) number
 
 -- The number of both bytes x and y, where they are letters or digits. A closing brace and at most
 -- two letters or digits have to be all that follow them.
@@ -44,11 +45,13 @@ abbrev pub closed_number : List ℕ → Option (List ℕ)
 closed_number [] = None
 closed_number (x ∷ []) = None
 closed_number (x ∷ y ∷ rest) = option_or
-    (value_when (y == octet "}" && is_message_number (x ∷ []) && is_number_or_nothing rest) (x ∷ []))
+    (value_when (y == octet "}" && is_message_number (x ∷ [])
+        && is_number_or_nothing rest) (x ∷ []))
     (number_of_two x y rest)
 
 -- The number that a text has between braces, or none. At most two letters or digits, and nothing
 -- else, may follow them.
 abbrev pub trailing_number : List ℕ → Option (List ℕ)
 trailing_number [] = None
-trailing_number (b ∷ text) = option_or (if b == octet "{" then closed_number text else None) (trailing_number text)
+trailing_number (b ∷ text) =
+    option_or (if b == octet "{" then closed_number text else None) (trailing_number text)

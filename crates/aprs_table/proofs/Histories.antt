@@ -30,8 +30,8 @@ row_told x first last who via frame info source told v f start end w s h t i r =
 -- what is read of a frame of these parts
 pub mic_e_read : (p : Parts) (to : Call) (info : List ℕ) (r : Option MicE)
     → to ≡ p.destination.call → info ≡ p.info
-    → option_map mic_e_view r ≡ mic_e_or_none to.letters info
-    → option_map mic_e_view r ≡ mic_e_or_none p.destination.call.letters p.info
+    → option_map mic_e_view r ≡ mic_e_or_none to.characters info
+    → option_map mic_e_view r ≡ mic_e_or_none p.destination.call.characters p.info
 mic_e_read p to info r t i is = is
-    ∙ ap (λ (call : Call). mic_e_or_none call.letters info) t
-    ∙ ap (mic_e_or_none p.destination.call.letters) i
+    ∙ ap (λ (call : Call). mic_e_or_none call.characters info) t
+    ∙ ap (mic_e_or_none p.destination.call.characters) i

@@ -134,7 +134,7 @@ told head h p are (rej addressee id) is =
 told head h p are (status stamp text) is =
     text_line (codes "status") _ text refl
     (are_append head _ h (stamp_free stamp (status_stamp stamp text p.info is) & tt))
-told head h p are raw is = other head h p are (mic_e_or_none p.destination.call.letters p.info)
+told head h p are raw is = other head h p are (mic_e_or_none p.destination.call.characters p.info)
 
 row_line : (x : Row) → IsTold x → Line (history_line x)
 row_line x h =

@@ -64,7 +64,7 @@ told_line told p (ack addressee id) = spaced_line (codes "ack") (told ++ word ad
 told_line told p (rej addressee id) = spaced_line (codes "rej") (told ++ word addressee ∷ id ∷ [])
 told_line told p (status stamp text) =
     line_with_text (codes "status") (told ++ stamp_text stamp ∷ []) text
-told_line told p raw = other_line told p (mic_e_or_none p.destination.call.letters p.info)
+told_line told p raw = other_line told p (mic_e_or_none p.destination.call.characters p.info)
 
 -- The line of a row.
 abbrev pub history_line : Row → List ℕ

@@ -202,7 +202,7 @@ fn put_other<W: Write>(
 ) -> Result<(), WriteFault>
     ensures { Puts W.contents result out.old out.new
         (other_line (map field_text told.now) (parts_of (frame_bytes frame.now))
-        (mic_e_or_none (parts_of (frame_bytes frame.now)).destination.call.letters
+        (mic_e_or_none (parts_of (frame_bytes frame.now)).destination.call.characters
         (parts_of (frame_bytes frame.now)).info)) }
 {
     let destination = frame.destination();

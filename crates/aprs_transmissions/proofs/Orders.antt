@@ -41,13 +41,13 @@ bytes_exact = exact_bytes
 
 pub call_total : IsTotalOrder call_cmp
 call_total =
-    then_total (on_total (λ c. c.letters) nat_list_cmp_total) (on_total (λ c. c.ssid) nat_cmp_total)
+    then_total (on_total (λ c. c.characters) nat_list_cmp_total) (on_total (λ c. c.ssid) nat_cmp_total)
 
 pub call_exact : CmpEqualImpliesEq call_cmp
 call_exact a b h =
-    ap (λ (p : List ℕ × ℕ). record { letters = p.0; ssid = p.1 })
-    (exact_pairs bytes_cmp nat_cmp exact_bytes exact_unsigned (a.letters, a.ssid)
-    (b.letters, b.ssid) h)
+    ap (λ (p : List ℕ × ℕ). record { characters = p.0; ssid = p.1 })
+    (exact_pairs bytes_cmp nat_cmp exact_bytes exact_unsigned (a.characters, a.ssid)
+    (b.characters, b.ssid) h)
 
 pub key_total : IsTotalOrder key_cmp
 unfolding key_cmp

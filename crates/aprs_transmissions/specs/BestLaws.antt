@@ -14,7 +14,8 @@ Passes test key = IsTrue (test key)
 -- Something is last known, or nothing: one of the two always holds.
 abbrev pub SomeIsLastKnown : Type 0
 SomeIsLastKnown =
-    (test : Key → Bool) (S : List Received) → (known : Option Received) × LastKnown S (Passes test) known
+    (test : Key → Bool) (S : List Received)
+    → (known : Option Received) × LastKnown S (Passes test) known
 
 -- Looking at one reception after another finds what is last known.
 abbrev pub PlainIsLastKnown : Type 0

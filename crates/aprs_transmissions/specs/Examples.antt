@@ -35,14 +35,14 @@ hi_to ssid =
 -- The key of `hi_frame`, `hi_after_digipeater` and `hi_as_response`.
 abbrev pub hi_key : Key
 hi_key = record {
-  source = record { letters = codes "N0CALL"; ssid = 7 };
-  destination = record { letters = codes "APRS"; ssid = 0 };
+  source = record { characters = codes "N0CALL"; ssid = 7 };
+  destination = record { characters = codes "APRS"; ssid = 0 };
   info = codes ">Hi";
 }
 
 -- N0CALL with an SSID.
 abbrev pub n0call : ℕ → Call
-n0call ssid = record { letters = codes "N0CALL"; ssid = ssid }
+n0call ssid = record { characters = codes "N0CALL"; ssid = ssid }
 
 -- A property that each key has.
 abbrev pub is_any_key : Key → Bool

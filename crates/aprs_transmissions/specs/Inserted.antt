@@ -22,13 +22,15 @@ grow_row r s = record {
 -- combined with r.
 abbrev pub bridge_row : ℕ → Received → Row → List Row → List Row
 bridge_row gap s r [] = r ∷ []
-bridge_row gap s r (x ∷ xs) = choose (compare_near_to gap x s) (r ∷ x ∷ xs) (combine r x ∷ xs) (r ∷ x ∷ xs)
+bridge_row gap s r (x ∷ xs) =
+    choose (compare_near_to gap x s) (r ∷ x ∷ xs) (combine r x ∷ xs) (r ∷ x ∷ xs)
 
 -- The rows with one more reception, in its place among them.
 abbrev pub insert_heard : ℕ → Received → List Row → List Row
 insert_heard gap s [] = single s ∷ []
 insert_heard gap s (r ∷ rows) =
-    choose (compare_near_to gap r s) (r ∷ insert_heard gap s rows) (bridge_row gap s (grow_row r s) rows)
+    choose (compare_near_to gap r s) (r ∷ insert_heard gap s rows)
+        (bridge_row gap s (grow_row r s) rows)
     (single s ∷ r ∷ rows)
 
 -- Exactly one row is near to s, and it lists the receiver of s: what s changes fits in that row.

@@ -37,7 +37,8 @@ FirstsJoin gap =
 -- Two near rows that are sound by themselves are one sound row.
 abbrev pub NearIsSound : ℕ → Type 0
 NearIsSound gap =
-    (x y : Row) → IsSoundRow x → IsSoundRow y → compare_near gap x y ≡ Equal → IsSoundRow (combine x y)
+    (x y : Row) → IsSoundRow x → IsSoundRow y → compare_near gap x y ≡ Equal
+    → IsSoundRow (combine x y)
 
 -- The first two rows are not near, the second is sound, and neither comes after a row behind it.
 -- Then the first is the book's first row, and the others are the book of the rows behind it.

@@ -22,7 +22,7 @@ pub struct Window {
 impl Window {
     ghost use Rattle.std.specs.Io.KnownBytes.{Consumes};
     ghost use Rattle.aprs_io.specs.Device.{Calls, device_of};
-    ghost use Rattle.aprs_io.specs.Input.{EndsHere, last_got};
+    ghost use Rattle.aprs_io.specs.Input.{EndsIfKnown, last_got};
     ghost use Rattle.aprs_log.specs.Window.{items};
 
     /// A window that holds `head`, which has at most 8 bytes.
@@ -73,7 +73,7 @@ impl Window {
             more) }
 
         ensures end { IfErr result (λ ending. (items self.new ≡ items self.old)
-            × EndsHere ending left (R.remaining (device_of source.old))
+            × EndsIfKnown ending left (R.remaining (device_of source.old))
             (R.remaining (device_of source.new))) }
 
         ensures calls { Calls (last_got result) source.old source.new }

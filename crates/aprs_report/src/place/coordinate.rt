@@ -9,7 +9,7 @@ use crate::bytes::{Trailing, is_digit_byte};
 use crate::numeral::numeral;
 
 /// How many hundredths of minutes a degree has.
-pub const PER_DEGREE: u64 = 6_000;
+pub const PER_DEGREE: u32 = 6_000;
 
 /// Which of the two angles of a position.
 #[derive(Clone, Copy)]
@@ -107,7 +107,7 @@ fn within_degree(minutes: u64) -> Option<u64>
     ensures exact { result ≡ Spec.value_when (nat_lt minutes per_degree) minutes }
     ensures small { IfSome result (λ n. n < per_degree) }
 {
-    if minutes < PER_DEGREE {
+    if minutes < PER_DEGREE as u64 {
         Some(minutes)
     } else {
         None
@@ -150,7 +150,7 @@ pub fn angle(axis: Axis, ambiguity: u8, degrees: &[u8], text: &[u8; 6]) -> Optio
     let degrees = numeral(10, b'0', degrees)? as u64;
     let minutes = minutes(axis, ambiguity, &[tens, units, tenths, hundredths])?;
     let is_negative = axis.half(letter)?;
-    let angle = degrees * PER_DEGREE + minutes;
+    let angle = degrees * PER_DEGREE as u64 + minutes;
     if point != b'.' || angle > axis.limit() as u64 {
         return None;
     }

@@ -110,8 +110,9 @@ impl<A: Allocator + Copy> OpenRow<A> {
     }
 }
 
-/// The most bytes that the names of a row's receivers have, with commas between.
-const MOST_NAMES: usize = 4_294_967_295;
+/// The most bytes that the names of a row's receivers have, with commas between, since more don't
+/// fit where rows are kept.
+pub const MOST_NAMES: usize = 4_294_967_295;
 
 /// Puts the one row that a row and the next one are, which have to be near, into `spare`. Writes
 /// over `names`. `Memory` also where its receivers' names would have more than `MOST_NAMES` bytes.

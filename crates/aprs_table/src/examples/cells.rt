@@ -28,7 +28,7 @@ pub fn fields_have_texts()
     ensures plain { cell_text (Fields.Plain (lent_bytes (codes "\\"))) ≡ codes "\\" }
     ensures shown { cell_text (Fields.Shown (lent_bytes (codes "\\"))) ≡ codes "\\x5c" }
     ensures call { Gives (λ (ssid : ℕ). cell_text
-        (Fields.Call (record { letters = codes "WU2Z"; ssid = ssid }))) (
+        (Fields.Call (record { characters = codes "WU2Z"; ssid = ssid }))) (
         (0, codes "WU2Z") ∷
         (1, codes "WU2Z-1") ∷
         (15, codes "WU2Z-15") ∷ []) }

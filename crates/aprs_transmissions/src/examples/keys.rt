@@ -49,8 +49,8 @@ pub fn keys_are_ordered_part_by_part()
     ensures information { key_cmp (key_to 1 1 (codes "a")) (key_to 1 1 (codes "b")) ≡ Less }
     ensures same { key_cmp (key_to 1 1 (codes "a")) (key_to 1 1 (codes "a")) ≡ Equal }
 
-    ensures letters { call_cmp (record { letters = codes "AA"; ssid = 15 })
-        (record { letters = codes "AB"; ssid = 0 }) ≡ Less }
-    ensures shorter { call_cmp (record { letters = codes "A"; ssid = 15 })
-        (record { letters = codes "AA"; ssid = 0 }) ≡ Less }
+    ensures letters { call_cmp (record { characters = codes "AA"; ssid = 15 })
+        (record { characters = codes "AB"; ssid = 0 }) ≡ Less }
+    ensures shorter { call_cmp (record { characters = codes "A"; ssid = 15 })
+        (record { characters = codes "AA"; ssid = 0 }) ≡ Less }
 {}

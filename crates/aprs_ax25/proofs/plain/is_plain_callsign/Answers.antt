@@ -1,6 +1,6 @@
 use Rattle.std.proofs.Common.{◌≡◌, length, take, drop, [], arith, ap, ◌∙◌, refl}
 use Rattle.std.proofs.lemmas.List.{length-take-le, drop_all}
-use Rattle.aprs_ax25.specs.Plain.{letters_then_spaces}
+use Rattle.aprs_ax25.specs.Plain.{characters_then_spaces}
 use Rattle.aprs_ax25.proofs.Plains.{plain-address}
 use Rattle.aprs_ax25.proofs.plain.is_plain_callsign.Goals as goal
 
@@ -12,4 +12,4 @@ returns c = λ fine.
     let none : drop i six ≡ [] = drop_all i six (omega (arith, c.loop-octet-test.false)) in
     plain-address c.args.octets.now c.requires (c.loop-octet.invariant.first fine)
     (c.loop-octet.invariant.others fine
-    (ap (letters_then_spaces c.loop-octet.after_letter) none ∙ refl))
+    (ap (characters_then_spaces c.loop-octet.after_character) none ∙ refl))

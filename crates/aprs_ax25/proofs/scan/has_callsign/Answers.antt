@@ -6,6 +6,6 @@ use Rattle.aprs_ax25.proofs.scan.has_callsign.Goals as goal
 
 pub returns-then-len-gt0 : goal.returns-then-len-gt0
 returns-then-len-gt0 c =
-    has_callsign_at c.args.octets.now c.letters_len-len.result _ c.letters_len-len.ensures.value
+    has_callsign_at c.args.octets.now c.characters_len-len.result _ c.characters_len-len.ensures.value
     c.if-len-gt0.true
     (c.are_spaces.ensures ∙ ap (list_all is_space_octet) c.split_at.ensures.back)

@@ -6,5 +6,5 @@ use Rattle.aprs_lists.proofs.net.reply_number.Goals as goal
 
 pub returns-in-None : goal.returns-in-None
 returns-in-None c =
-    number_held (record { letters = []; ssid = 0 }) c.args.text.now _ c.number_in.ensures
+    number_held (record { characters = []; ssid = 0 }) c.args.text.now _ c.number_in.ensures
     ∙ ap (λ o. reply_number (option_map (λ y. y.now) o) c.args.text.now) (sym c.in-None.is)

@@ -7,5 +7,5 @@ pub invariant_of-result : goal.invariant_of-result
 invariant_of-result c =
     let octets = c.args.octets.now in
     let P : List ℕ → Type 0 =
-    λ letters. IsCall (record { letters = letters; ssid = slice_index octets 6 / 2 % 16 }) in
-    subst P (sym c.letters_of.ensures) (call_of-IsCall octets c.requires.seven c.requires.callsign)
+    λ characters. IsCall (record { characters = characters; ssid = slice_index octets 6 / 2 % 16 }) in
+    subst P (sym c.characters_of.ensures) (call_of-IsCall octets c.requires.seven c.requires.callsign)

@@ -6,13 +6,13 @@ use Rattle.aprs_ax25.proofs.callsign.Callsign.parse.Goals as goal
 pub returns-in-Ok-clause-found : goal.returns-in-Ok-clause-found
 returns-in-Ok-clause-found c =
     let P : List ℕ → Type 0 =
-    λ l. SpellsCall (record { letters = l; ssid = c.in-Ok.ssid }) c.args.text.now in
+    λ l. SpellsCall (record { characters = l; ssid = c.in-Ok.ssid }) c.args.text.now in
     subst P (sym (c.up_to_six.ensures ∙ c.in-Ok.ensures.1))
     (call_fault-CallText c.args.text.now c.in-Ok.ssid c.in-Ok.ensures.0 c.in-Ok.ensures.2)
 
 pub returns-in-Ok-clause-only : goal.returns-in-Ok-clause-only
 returns-in-Ok-clause-only c = λ d h.
-    ap (λ l. Ok (record { letters = l; ssid = c.in-Ok.ssid }))
+    ap (λ l. Ok (record { characters = l; ssid = c.in-Ok.ssid }))
     (c.up_to_six.ensures ∙ c.in-Ok.ensures.1)
     ∙ ap (λ e. Ok e) (CallText-is d c.args.text.now h c.in-Ok.ssid c.in-Ok.ensures.2)
 
