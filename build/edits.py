@@ -1,15 +1,15 @@
 #!/usr/bin/env python3
 """Tries the edits that must fail, many in one check: those of edits/ and of crates/*/must-fail.
 
-usage: build/edits.py [--jobs N] [--alone] [--anew | --must-fail] [--only WORD] [CRATE..]
+usage: build/edits.py [--jobs N] [--alone] [--anew | --must-fail] [--draw N] [--only WORD] [CRATE..]
 
 --jobs N   so many checks side by side, each with one job; --alone tries each edit in a check of its own;
 --only WORD tries the edits whose names have this word. Without a CRATE all crates that have edits are tried.
 
 What is refused is noted in edits/CRATE/refused.txt, with a checksum of what this rests on: the kit, the
 edit, the functions that it changes, and all that the crate and those below it say but for bodies, comments
-and examples. What is noted so isn't tried again, but with --anew, which tries all, and with --must-fail,
-which tries anew those of must-fail/.
+and examples. What is noted so isn't tried again, but with --anew, which tries all, with --must-fail,
+which tries anew those of must-fail/, and with --draw, which tries anew N of each crate, by chance.
 
 A crate's edits of different functions are put into one copy of it, which is checked over what was
 proved of the crate before (`make build`). A goal of a function rests on the function's own code, and
@@ -26,6 +26,7 @@ import functools
 import hashlib
 import os
 import pathlib
+import random
 import re
 import shutil
 import subprocess
@@ -297,6 +298,8 @@ class Trial:
             return []
         known = [it for it in self.edits if self.verdicts.has(it)]
         anew = {it.name for it in must_fail(self.crate)} if self.asked.must_fail else set()
+        drawn = random.sample(known, min(self.asked.draw, len(known)))
+        anew |= {it.name for it in drawn}
         return [it for it in known if it.name not in anew]
 
     def run(self) -> None:
@@ -359,6 +362,7 @@ def main(words: Optional[List[str]] = None) -> int:
     which = parser.add_mutually_exclusive_group()
     which.add_argument("--anew", action="store_true")
     which.add_argument("--must-fail", action="store_true")
+    parser.add_argument("--draw", type=int, default=0, metavar="N")
     parser.add_argument("--only", default="", metavar="WORD")
     asked = parser.parse_args(words)
     names = asked.crates or [it for it in crates.rows() if paths_of(it)]

@@ -2,7 +2,7 @@
 """Proves and tries everything of this repository, side by side.
 
 usage: build/gate.py prove    the gate: every proof from nothing, every test but those of aprs-net, and of the
-                              edits that must fail those of must-fail/, those of a crate that is drawn
+                              edits that must fail those of must-fail/, twelve of a crate that is drawn
                               by chance, and each that isn't noted as refused
        build/gate.py check    the same over what was proved before, but for the edits that are noted
        build/gate.py build    the proofs of the program and of what it stands on, over those before
@@ -32,6 +32,8 @@ ASIDE = TOP / "out" / "before"
 # how long a job takes, in lines that are proved: an edit, the first check for edits, the link of a program,
 # and a make of tests; what a line of a test takes
 EDIT, CHECK, LINK, TEST, LINE_OF_TEST = 160, 600, 2_500, 4_000, 3
+# so many edits of one crate are tried anew
+DRAWN = 12
 # the target that makes the page of an event, where that can be done
 PAGE = "event-page-here"
 # the crate of the program that is installed, by whatever name it is called
@@ -47,14 +49,13 @@ def size_of(crate: str) -> int:
 
 
 def is_of_tests(crate: str) -> bool:
-    """Whether a crate has only tests."""
+    """Whether a crate has only tests, which run without a proof, since no clause of theirs needs one."""
     return crate.endswith("_tests")
 
 
-def is_tried(crate: str) -> bool:
-    """Whether a crate's tests run without a proof, which none of their clauses needs. With checks of
-    each access those of aprs_long_tests would take minutes, so they are proved."""
-    return is_of_tests(crate) and crate != "aprs_long_tests"
+def is_to_prove(crate: str) -> bool:
+    """Whether a crate is proved: all but those of tests, and what these share."""
+    return not is_of_tests(crate) and not crate.endswith("_fixtures")
 
 
 def is_program(crate: str) -> bool:
@@ -76,12 +77,12 @@ def proofs(names: Sequence[str]) -> Iterator[Job]:
 
 
 def trials(option: Sequence[str], drawn: str) -> Iterator[Job]:
-    """The edits of each crate, once it is proved, by this option; of the crate that is drawn all."""
+    """The edits of each crate, once it is proved, by this option; of the crate that is drawn some more."""
     for name in filter(edits.paths_of, crates.rows()):
-        every = name == drawn
-        count = len(edits.paths_of(name) if every else edits.must_fail(name))
-        command = ["build/edits.py", *(["--anew"] if every else option), "--jobs", jobs.JOBS, name]
-        title = f"edits of {name}" + " (every one)" * every
+        more = DRAWN if name == drawn else 0
+        count = len(edits.must_fail(name)) + more
+        command = ["build/edits.py", *option, "--draw", str(more), "--jobs", jobs.JOBS, name]
+        title = f"edits of {name}" + f" ({more} drawn)" * bool(more)
         yield Job(title, command, frozenset([name]), CHECK + count * EDIT, 2)
 
 
@@ -100,7 +101,7 @@ def tests_of_sources() -> Iterator[Job]:
 
 def tests_of_crates() -> Iterator[Job]:
     """The tests of the crates, built with checks of each access in place of a proof."""
-    for name in filter(is_tried, crates.rows()):
+    for name in filter(is_of_tests, crates.rows()):
         yield Job(f"tests of {name}", ["build/try.sh", name], frozenset(), size_of(name))
 
 
@@ -115,14 +116,14 @@ def check() -> List[Job]:
 
 
 def prove() -> List[Job]:
-    """The gate, with all edits of a crate that is drawn by chance."""
+    """The gate, with some edits of a crate that is drawn by chance."""
     drawn = random.choice(list(filter(edits.paths_of, crates.rows())))
     return every_job(trials(["--must-fail"], drawn))
 
 
 def every_job(of_edits: Iterator[Job]) -> List[Job]:
     """The gate, with these of the edits."""
-    every = [it for it in crates.rows() if not is_tried(it)]
+    every = list(filter(is_to_prove, crates.rows()))
     release = Job("release", ["build/objects.sh", "--compare"], frozenset([PROGRAM]))
     # of aprs-net the types alone: its tests wait for clocks and servers, and are those of `make test`
     tools = Job("types of tools", ["tests/sources/tools.sh"], frozenset(), TEST)

@@ -46,6 +46,32 @@ test("several inputs are one book, under the gap that is asked for", { skip }, (
   assert.equal(done("merge", 30, text, "", RX1).text, text);
   assert.equal(done("widen", 60, text).text.split("\n")[0], "APRSBOOK 3 60");
 });
+test("a book's text with any byte in any place's stead is refused, or is that of its book", { skip },
+  () => {
+    const one = "APRSBOOK 3 30\nT 2024-05-01T12:00:00.000Z 2024-05-01T12:00:00.000Z RX1 RX1 "
+      + "82a0a4a64040e09c60868298986f03f03e4869\nEND 1\n";
+    const two = "APRSBOOK 3 30\nT 1970-01-01T00:00:00.000Z 1970-01-01T00:00:30.000Z RX1,RX2 RX2 "
+      + "82a0a4a64040e09c60868298986eae92888a6240e303f03e4869\n"
+      + "T 2099-12-31T23:59:59.000Z 2099-12-31T23:59:59.000Z RX2 RX2 "
+      + "82a0a4a64040e09c60868298986f03f03e4869\nEND 2\n";
+    const counts = [one, two].map(text => {
+      const bytes = bytesOf(text), found = { refused: 0, taken: 0 };
+      for (const at of bytes.keys()) {
+        const was = bytes[at];
+        for (bytes[at] = 0; ; bytes[at]++) {
+          const { status, fault, bytes: written } = run(module, "merge", 30, [bytes]);
+          if (status) assert.notEqual(fault, "", `${at} ${bytes[at]}`);
+          else assert.deepEqual(Buffer.from(written), Buffer.from(bytes), `${at} ${bytes[at]}`);
+          found[status ? "refused" : "taken"]++;
+          if (bytes[at] === 255) break;
+        }
+        bytes[at] = was;
+      }
+      return found;
+    });
+    assert.deepEqual(counts.map(it => it.refused + it.taken), [256 * one.length, 256 * two.length]);
+    assert.ok(counts.every(it => it.taken > one.length));
+  });
 test("a fault names the input, the line and the cause", { skip }, () => {
   const { status, input, line: at, fault } = done("merge", 30, RX1, RX1 + "torn\n", "torn\n");
   assert.deepEqual([status, input, at, fault], [1, 1, 2, "Moment"]);
