@@ -78,14 +78,24 @@ fn is_enough(alloc: Global, run: Run, size: usize, text: &[u8]) -> Result<bool, 
     Ok(outcome.is_ok() && w.into_inner().as_slice() == wanted)
 }
 
-/// The least heap that is enough, of those with so many units of 64 bytes.
+/// Halves of 512, down to 1.
+const STEPS: &[usize] = &[256, 128, 64, 32, 16, 8, 4, 2, 1];
+
+/// The least heap that is enough, of those with 512 to 1,022 units of 64 bytes. What is enough
+/// stays so where there is more.
 fn least(alloc: Global, run: Run, text: &[u8]) -> Result<usize, Fail> {
-    for units in 512..1024usize {
-        if is_enough(alloc, run, units * 64, text)? {
-            return Ok(units * 64);
+    let mut short = 511usize;
+    for &step in STEPS {
+        let more = short.saturating_add(step);
+        if !is_enough(alloc, run, more.saturating_mul(64), text)? {
+            short = more;
         }
     }
-    Err("no heap is enough".into())
+    let size = short.saturating_add(1).saturating_mul(64);
+    if !is_enough(alloc, run, size, text)? {
+        return Err("no heap is enough".into());
+    }
+    Ok(size)
 }
 
 #[test]
