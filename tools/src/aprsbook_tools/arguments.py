@@ -1,4 +1,6 @@
 """Arguments that more than one command has."""
+from __future__ import annotations
+
 import argparse
 import os
 import re
@@ -6,7 +8,7 @@ import time
 from typing import Callable, Optional, Sequence
 
 from aprsbook_tools.errors import ExitStatus, Fault
-from aprsbook_tools.formats import limits, log_file, moments
+from aprsbook_tools.formats import forms, limits, moments
 from aprsbook_tools.formats.forms import form
 
 SECONDS = {"s": 1, "m": 60, "h": 3600, "d": 86_400}
@@ -81,7 +83,7 @@ def beginning(text: str) -> int:
 
 def receiver(text: str) -> str:
     """The name of a receiver."""
-    if not re.fullmatch(log_file.RECEIVER, text):
+    if not re.fullmatch(forms.RECEIVER, text):
         hint = "; where a TNC is stands behind --connect or --serial" if re.search("[:/]", text) \
             else ""
         raise argparse.ArgumentTypeError(f"not 1 to 16 letters, digits, - and _{hint}")

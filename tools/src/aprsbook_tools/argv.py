@@ -1,4 +1,6 @@
 """What was typed: a command's parser, options that stand among inputs, and what was meant."""
+from __future__ import annotations
+
 import argparse
 import functools
 import importlib

@@ -1,4 +1,6 @@
 """How far long work is, on standard error where that is a terminal, and nothing elsewhere."""
+from __future__ import annotations
+
 import sys
 import threading
 from typing import Callable, Iterable, Iterator, Optional, TypeVar

@@ -1,4 +1,6 @@
 """What reports have in common: their arguments, and tables of fields with names in each format."""
+from __future__ import annotations
+
 import argparse
 import os
 import sys
@@ -9,7 +11,7 @@ from aprsbook_tools.books import inputs, merged_inputs
 from aprsbook_tools.formats import moments
 from aprsbook_tools.formats.spreadsheet import Cell, csv_line
 from aprsbook_tools.reports import table
-from aprsbook_tools.system import atomic, streams
+from aprsbook_tools.system import streams
 
 FORMATS = ("text", "tsv", "csv", "json")
 MAPS = ("gpx", "geojson", "kml")  # of reports that have places
@@ -125,6 +127,7 @@ def put_table(args: argparse.Namespace, head: Sequence[str], rows: Rows, *more: 
 
 def put_lines(args: argparse.Namespace, lines: Iterable[str], *more: str) -> None:
     """Writes a report as it comes, never in place of what it was made of."""
-    given = atomic.all_of(getattr(args, "roster", None), args.inputs, list(more))
+    roster: Optional[str] = getattr(args, "roster", None)
+    given = [*more, *args.inputs, *([] if roster is None else [roster])]
     octets = (it.encode("utf-8", "surrogateescape") for it in lines)
     streams.put(args.output, octets, given)

@@ -8,14 +8,15 @@ from typing import IO, Dict, Iterable, Iterator, List, NamedTuple, Optional, Seq
 
 from aprsbook_tools import stderr
 from aprsbook_tools.errors import ExitStatus, Fault, said
-from aprsbook_tools.formats import book_file, log_file
+from aprsbook_tools.formats import book_file
 from aprsbook_tools.formats.forms import form
 from aprsbook_tools.system import packing, programs, temporary
 
-KIND = form(r"[^.].*\.(log|book)(?:\.gz|\.xz|\.bz2|\.zst)?", re.DOTALL)
+KINDS = (".log", ".book")  # the endings of what isn't packed
 MISNAMED = form(r"[^.].*\.log(?![a-z]).*", re.DOTALL | re.IGNORECASE)
 NAMED = 5  # files that are named in one line
 DAY = form(r"(?:19|20)[0-9]{2}-[0-9]{2}-[0-9]{2}")
+DIGITS = str.maketrans("123456789", "000000000")
 
 
 class Input(NamedTuple):
@@ -29,8 +30,7 @@ class Input(NamedTuple):
 
     @property
     def is_book(self) -> bool:
-        found = KIND.fullmatch(os.path.basename(self.path))
-        return found is not None and found[1] == "book"
+        return kind_of(self.path) == ".book"
 
     @property
     def packing(self) -> str:
@@ -39,14 +39,29 @@ class Input(NamedTuple):
         return ending if ending in packing.OPENERS else ""
 
 
+def kind_of(path: str) -> str:
+    """The ending of a log or a book, which may be packed, or nothing; what begins with a dot is
+    neither."""
+    name, ending = os.path.splitext(os.path.basename(path))
+    if ending in packing.OPENERS:
+        name, ending = os.path.splitext(name)
+    return ending if ending in KINDS and not name.startswith(".") else ""
+
+
 def is_input(path: str) -> bool:
-    """Whether a name is that of a log or a book; what begins with a dot is none."""
-    return KIND.fullmatch(os.path.basename(path)) is not None
+    """Whether a name is that of a log or a book."""
+    return kind_of(path) != ""
+
+
+def is_day(text: str) -> bool:
+    """Whether a text is a day, as 2024-06-21."""
+    return text.translate(DIGITS) == "0000-00-00" and text[:2] in ("19", "20")
 
 
 def day_said(path: str) -> str:
     """The day that a path says, as 2024-06-21, or nothing."""
-    return str((DAY.findall(os.path.abspath(path)) or [""])[-1])
+    whole = os.path.abspath(path)
+    return (DAY.findall(whole) or [""])[-1] if whole.count("-") > 1 else ""
 
 
 def day_of(path: str) -> str:
@@ -59,7 +74,7 @@ def day_of(path: str) -> str:
             begin = file.read(10).decode("ascii", "replace")
     except packing.faults(OSError):
         return ""
-    return begin if DAY.fullmatch(begin) else ""
+    return begin if is_day(begin) else ""
 
 
 def look_at(path: str) -> Input:
@@ -240,6 +255,8 @@ def named(paths: Sequence[str]) -> Iterator[List[str]]:
 
 def whole_lines(octets: bytes) -> List[bytes]:
     """The lines of a log that are whole, each with its line feed; carriage returns before it go."""
+    from aprsbook_tools.formats import log_file  # most reports read no log themselves
+
     return [line.rstrip(b"\r\n") + b"\n" for line in io.BytesIO(octets)
             if log_file.read_whole(line) is not None]
 

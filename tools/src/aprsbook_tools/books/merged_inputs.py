@@ -1,5 +1,7 @@
 """Inputs as programs read them, and their book, read once: what is asked of it afterwards is of one
 state of growing logs."""
+from __future__ import annotations
+
 import contextlib
 import os
 from typing import IO, ContextManager, Iterator, List, Optional, Sequence

@@ -1,4 +1,6 @@
 """The table of a book as CSV for a spreadsheet."""
+from __future__ import annotations
+
 import argparse
 from typing import Iterator, List, Sequence
 

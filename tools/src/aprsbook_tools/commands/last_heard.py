@@ -1,4 +1,6 @@
 """Each station with the moment and the receiver that heard it last."""
+from __future__ import annotations
+
 import argparse
 
 from aprsbook_tools import table_output

@@ -1,4 +1,6 @@
 """Each message, with its answer."""
+from __future__ import annotations
+
 import argparse
 
 from aprsbook_tools import table_output

@@ -1,4 +1,6 @@
 """Who came by each checkpoint, and when."""
+from __future__ import annotations
+
 import argparse
 import re
 from typing import Dict, List, Sequence, Tuple

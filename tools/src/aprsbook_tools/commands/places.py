@@ -1,4 +1,6 @@
 """Every place, or the last one of each station, object and item."""
+from __future__ import annotations
+
 import argparse
 
 from aprsbook_tools import table_output

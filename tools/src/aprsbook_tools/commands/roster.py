@@ -1,4 +1,6 @@
 """Who of those expected wasn't heard, and since when."""
+from __future__ import annotations
+
 import argparse
 from typing import Dict, Iterable, List, Optional
 

@@ -1,4 +1,6 @@
 """The tables of a book in a database of SQLite."""
+from __future__ import annotations
+
 import argparse
 import concurrent.futures
 import contextlib

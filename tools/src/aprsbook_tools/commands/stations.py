@@ -1,4 +1,6 @@
 """Each station, with its last position and status."""
+from __future__ import annotations
+
 import argparse
 
 from aprsbook_tools import table_output

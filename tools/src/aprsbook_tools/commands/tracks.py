@@ -1,4 +1,6 @@
 """Places and tracks, also as GPX, GeoJSON or KML."""
+from __future__ import annotations
+
 import argparse
 
 from aprsbook_tools import table_output

@@ -1,4 +1,6 @@
 """Addresses of AX.25 frames: made of texts of other programs, and read as far as a log needs."""
+from __future__ import annotations
+
 from typing import List, Optional, Tuple
 
 from aprsbook_tools.formats.forms import form

@@ -2,7 +2,7 @@
 from typing import IO, Iterator, NamedTuple, Optional
 
 from aprsbook_tools.errors import Fault
-from aprsbook_tools.formats import limits, log_file, moments
+from aprsbook_tools.formats import forms, limits, moments
 from aprsbook_tools.formats.forms import form
 
 BEGIN = b"APRSBOOK"  # so a book begins, and no line of a log
@@ -11,7 +11,7 @@ GAP = limits.STANDARD_GAP
 HEAD = 20  # bytes: no first line is longer
 FIRST = form(rb"APRSBOOK (?:[12]|3 ([0-9]{1,4}))\n")
 ROW = form(rb"T [^ ]+ (?P<moment>[^ ]+) [^ ]+ (?P<receiver>%s) (?P<frame>(?:[0-9a-f]{2})+)\n"
-           % log_file.RECEIVER.encode())
+           % forms.RECEIVER.encode())
 
 
 class Greatest(NamedTuple):
@@ -23,7 +23,7 @@ class Greatest(NamedTuple):
 
 def gap_of(octets: bytes) -> Optional[int]:
     """The gap in seconds that a first line says; None of what is no book."""
-    found = FIRST.match(octets)
+    found = FIRST.match(octets) if octets.startswith(BEGIN) else None
     return int(found[1] or GAP) if found else None
 
 

@@ -3,6 +3,10 @@ all modules takes as long as a small report."""
 import re
 from typing import Any, AnyStr, Generic, cast
 
+from aprsbook_tools.formats import limits
+
+# the name of a receiver, in logs and books
+RECEIVER = f"[A-Za-z0-9_-]{{1,{limits.MOST_NAME}}}"
 ASKED = ("match", "fullmatch", "search", "findall", "finditer", "split", "sub", "subn")
 
 

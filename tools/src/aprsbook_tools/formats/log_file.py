@@ -10,7 +10,7 @@ import os
 from typing import Callable, Deque, Dict, NamedTuple, Optional, Set, Tuple
 
 from aprsbook_tools.errors import said
-from aprsbook_tools.formats import limits, moments
+from aprsbook_tools.formats import forms, limits, moments
 from aprsbook_tools.formats.forms import form
 from aprsbook_tools.system import disk
 from aprsbook_tools.system.clock import CLOCK
@@ -23,7 +23,7 @@ except ImportError:  # not on Windows
 LINE = limits.MOST_LINE  # bytes before the line feed: no line of a log is longer
 BLOCK = 65536  # bytes that are read at a time
 HELD = 10_000  # frames: so many are held while there is no room
-RECEIVER = f"[A-Za-z0-9_-]{{1,{limits.MOST_NAME}}}"  # the name of a receiver
+RECEIVER = forms.RECEIVER
 FORM = form(
     rb"([0-9TZ.:-]{20,24}) (%s) ([0-9A-Fa-f]*)" % RECEIVER.encode())
 MOMENT = b"0000-00-00T00:00:00.000Z "  # a line begins so, with other digits

@@ -1,4 +1,6 @@
 """Moments: milliseconds since 1970-01-01T00:00:00Z, and their text in logs, books and tables."""
+from __future__ import annotations
+
 import functools
 import re
 
@@ -43,6 +45,18 @@ def milliseconds(text: str) -> int:
     if not 0 <= result < END:
         raise ValueError(f"{text} isn't from 1970 to 2099")
     return result
+
+
+@functools.lru_cache(maxsize=512)
+def day_of(text: str) -> int:
+    """The first millisecond of a day, as 2024-06-21; ValueError where there is none."""
+    return minute_of(f"{text}T00:00")
+
+
+def shown(text: str) -> int:
+    """The moment of 24 bytes that a program has shown."""
+    return day_of(text[:10]) + 3_600_000 * int(text[11:13]) + 60_000 * int(text[14:16]) + \
+        int(text[17:19] + text[20:23])
 
 
 def text_of(moment: int) -> str:

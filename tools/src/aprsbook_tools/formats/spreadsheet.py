@@ -4,6 +4,8 @@ A text that begins like a formula gets an apostrophe before it, unless it is a n
 or @ after blanks and apostrophes, of any kind, or with a tab or an end of a line. Reading takes
 it away again.
 """
+from __future__ import annotations
+
 from typing import Iterable, List, Sequence, Union
 
 from aprsbook_tools.formats.forms import form

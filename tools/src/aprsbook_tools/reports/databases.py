@@ -73,6 +73,8 @@ def converter_of(name: str, read: Callable[[str], Any]) -> table.ConvertColumn:
     """What makes the values of a column of what is shown there; nothing stays an empty text."""
     if name in SENT:
         return lambda values: values
+    if read is table.decimal:
+        return table.decimals("")
     return table_files.converter(read, lambda cell: cell, "", table.is_escaped)
 
 
@@ -81,14 +83,15 @@ def is_null(name: str, read: Callable[[str], Any]) -> bool:
     return name in SENT or table_files.cell_of(read("")) is None
 
 
-def literal(values: Sequence[Any]) -> str:
-    """SQL of the text that all values are; nothing where they aren't one text."""
-    first = values[0]
-    if not isinstance(first, str) or "\0" in first:
-        return ""  # SQL ends at a NUL
-    if first != values[-1] or values.count(first) < len(values):
+def literal(shown: Sequence[str], convert: table.ConvertColumn) -> str:
+    """SQL of the text that all values of a column are; nothing where they aren't one text."""
+    first = shown[0]
+    if first != shown[-1] or shown.count(first) < len(shown):
         return ""
-    return "'" + first.replace("'", "''") + "'"
+    [value] = convert(shown[:1])
+    if not isinstance(value, str) or "\0" in value:
+        return ""  # SQL ends at a NUL
+    return "'" + value.replace("'", "''") + "'"
 
 
 def parts_of(kinds: Sequence[str]) -> Iterator[Tuple[int, int]]:
@@ -125,12 +128,11 @@ def insert(base: sqlite3.Connection, name: str, tables: Iterable[Columns], count
             for at in filled:
                 shown = columns[at][begin:end]
                 if not table.is_empty(shown):
-                    converted = put[at].convert(shown)
-                    values[at] = literal(converted)
+                    values[at] = literal(shown, put[at].convert)
                     if not values[at]:
                         may_lack = put[at].empty == "null" and "" in shown
                         values[at] = "nullif(?, '')" if may_lack else "?"
-                        bound.append(converted)
+                        bound.append(put[at].convert(shown))
             rows: Iterable[Any] = zip(*bound) if bound else [()] * (end - begin)
             base.executemany(f"insert into {name} values ({', '.join(values)})", rows)
 

@@ -5,20 +5,28 @@ through a gate alone, and of which rows it is known that a receiver's clock is w
 """
 import argparse
 import collections
-import re
 from typing import (
     DefaultDict, Dict, Iterable, Iterator, List, NamedTuple, Optional, Sequence, Tuple)
 
 from aprsbook_tools import arguments, progress, table_output
 from aprsbook_tools.books import merged_inputs
 from aprsbook_tools.formats import book_file
-from aprsbook_tools.formats.forms import form
 from aprsbook_tools.reports import receiver_clocks, table
 from aprsbook_tools.reports.table import REST, Columns, Row, Time, text_of
 
 # those that are read
 COLUMNS = ("first", "last", "receivers", "receiver", "source", "destination", "gate", REST)
-CALL = form(r"[A-Za-z0-9]{1,9}(?:-[A-Za-z0-9]{1,2})?", re.ASCII)  # also one of APRS-IS
+
+
+def is_word(text: str, most: int) -> bool:
+    """Whether a text has 1 to so many letters and digits, and nothing else."""
+    return 0 < len(text) <= most and text.isascii() and text.isalnum()
+
+
+def is_call(text: str) -> bool:
+    """Whether a text is a callsign, also one of APRS-IS."""
+    call, dash, number = text.partition("-")
+    return is_word(call, 9) and (not dash or is_word(number, 2))
 
 
 class Heard(NamedTuple):
@@ -92,7 +100,7 @@ class Counts:
                 heard[call].append(
                     Heard(call, it.counts[SENT], it.last, it.receiver, it.counts[PASSED], moment))
         # within a frame that is passed on may stand anything
-        return [joined(heard[call]) for call in sorted(heard) if CALL.fullmatch(call)]
+        return [joined(heard[call]) for call in sorted(heard) if is_call(call)]
 
 
 def joined(own: Sequence[Heard]) -> Heard:

@@ -12,7 +12,6 @@ from typing import (
 
 from aprsbook_tools import stderr
 from aprsbook_tools.formats import book_file, moments
-from aprsbook_tools.formats.forms import form
 from aprsbook_tools.reports import table
 from aprsbook_tools.reports.table import REST, Columns, Row
 
@@ -20,7 +19,6 @@ from aprsbook_tools.reports.table import REST, Columns, Row
 COLUMNS = ("first", "receivers", "source", "destination", "gate", REST)
 MOST = 8  # rows of one text: what is sent more often has no partner that would be sure
 FEWEST = 2  # transmissions that both heard: fewer say nothing of a clock
-RUN = form(b"\1+")  # rows each of which has the text of the one behind it
 
 
 class Pair(NamedTuple):
@@ -40,6 +38,15 @@ def alike_in(columns: Columns) -> bytes:
         if b"\1" in alike and it.count(it[0]) < len(it):
             alike = bytes(map(operator.and_, alike, map(operator.eq, it, it[1:])))
     return alike
+
+
+def runs_in(alike: bytes, last: int) -> Iterator[slice]:
+    """The rows of each run before the last one, each but its last as the next."""
+    begin = alike.find(b"\1", 0, last)
+    while begin >= 0:
+        end = alike.find(b"\0", begin)
+        yield slice(begin, end + 1)
+        begin = alike.find(b"\1", end, last)
 
 
 class Pairs:
@@ -66,20 +73,19 @@ class Pairs:
         first, receivers, *texts = columns
         alike = alike_in(texts)
         last = alike.rfind(b"\0") + 1
-        for run in RUN.finditer(alike, 0, last):
-            own = slice(run.start(), run.end() + 1)
+        for own in runs_in(alike, last):
             self.compare(first[own], receivers[own])
         self.open = [it[last:last + MOST + 1] for it in columns]
 
     def compare(self, first: Sequence[str], receivers: Sequence[str]) -> None:
         """Takes rows of one text: when each was heard first, and by whom."""
-        if not 1 < len(first) <= MOST:
+        if not 1 < len(first) <= MOST or len({*receivers}) < len(receivers):
             return
         lists = [it.split(",") for it in receivers]
         names = [it for of in lists for it in of]
         if len({*names}) < len(names):
             return
-        times = [*map(moments.milliseconds, first)]
+        times = [*map(moments.shown, first)]
         for (at, of), (other_at, others) in itertools.combinations(zip(times, lists), 2):
             for one, other in itertools.product(of, others):
                 key, ahead = ((one, other), at - other_at) if one < other else \

@@ -381,6 +381,17 @@ def converter(read: Callable[[str], Any], empty: Any, changes: Optional[Changes]
     return convert
 
 
+def decimals(empty: Any) -> ConvertColumn:
+    """What converts a column of decimals, of which few are alike."""
+    def convert(values: Sequence[str]) -> Sequence[Any]:
+        if is_empty(values):
+            return [empty] * len(values)
+        if "" in values:
+            return [float(it) if it else empty for it in values]
+        return [*map(float, values)]
+    return convert
+
+
 def is_escaped(lines: str) -> bool:
     """Whether a line of what is shown isn't what it stands for."""
     return "\\" in lines
@@ -396,7 +407,8 @@ def read(kind: Type[T], lines: Iterable[str], names: Sequence[str] = (),
     """The table's lines as a kind, or as named tuples of some of its columns."""
     make = cast(Any, collections.namedtuple(kind.__name__, names)) if names else kind
     names = names or columns_of(kind)
-    own = [converter(it, it(""), is_escaped if it is text_of else None)
+    own = [decimals(None) if it is decimal else
+           converter(it, it(""), is_escaped if it is text_of else None)
            for it in map(readers_of(kind).__getitem__, names)]
     for shown in columns(kind, lines, wanted, names):
         try:

@@ -1,5 +1,7 @@
 """A table of a book whole, in each format. Many rows are converted at once, column by column: most
 columns are empty there, or stand as they are, and what is alike is converted once."""
+from __future__ import annotations
+
 import argparse
 import itertools
 from typing import Any, Callable, Dict, Iterable, Iterator, List, Sequence, Tuple, Type

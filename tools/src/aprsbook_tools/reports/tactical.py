@@ -1,4 +1,6 @@
 """Tactical names beside the calls of a book's tables."""
+from __future__ import annotations
+
 from typing import Any, Dict, Iterable, Iterator, List, Tuple, Type
 
 from aprsbook_tools.reports.roster import Roster

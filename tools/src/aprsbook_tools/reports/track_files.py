@@ -1,5 +1,7 @@
 """Places and tracks for other programs: tables, GPX 1.1, GeoJSON (RFC 7946) and KML 2.2. Each is
 written thing by thing; what follows all points waits in a file."""
+from __future__ import annotations
+
 import io
 import re
 from typing import Any, Callable, Dict, Iterable, Iterator, List, Sequence
@@ -116,7 +118,7 @@ def description_of(place: Place) -> str:
     """By whom a place was heard, how much of it is left out, and its comment."""
     row = place.row
     words = f"heard by {', '.join(row.receivers)}"
-    if not place.is_exact:
+    if row.ambiguity:
         words = f"digits left out: {row.ambiguity}; {words}"
     return f"{words}; {row.text}" if row.text else words
 
@@ -124,12 +126,12 @@ def description_of(place: Place) -> str:
 def point_of(tag: str, place: Place, name: str = "", more: str = "") -> str:
     """A point of GPX: a waypoint, or one of a track."""
     row, (north, east) = place.row, place.spot
-    lon = degrees(east)
+    lat, lon = f"{north:.7f}", f"{east:.7f}"
     # its longitudes end below 180
     lon = lon.replace("180.", "-180.") if lon.startswith("180.") else lon
     height = f"<ele>{row.altitude_m:.1f}</ele>" if row.altitude_m is not None else ""
     return (
-        f'<{tag} lat="{degrees(north)}" lon="{lon}">{height}<time>{row.first}</time>{name}'
+        f'<{tag} lat="{lat}" lon="{lon}">{height}<time>{row.first}</time>{name}'
         f"<desc>{markup(description_of(place))}</desc>{more}</{tag}>\n"
     )
 
@@ -142,7 +144,8 @@ def waypoint_of(place: Place, roster: Roster) -> str:
 
 def track_of(thing: Thing, roster: Roster) -> str:
     """A track of GPX; a kill ends a segment."""
-    parts = [f"<trk><name>{markup(label_of(thing.now, roster))}</name><type>{thing.kind}</type>\n"]
+    label = label_of(thing.places[0], roster)  # the same of each place
+    parts = [f"<trk><name>{markup(label)}</name><type>{thing.kind}</type>\n"]
     for run in thing.segments:
         points = "".join(point_of("trkpt", place) for place in run)
         parts.append(f"<trkseg>\n{points}</trkseg>\n")
@@ -261,7 +264,7 @@ def lines_placemark(thing: Thing, roster: Roster) -> str:
         for run in thing.segments
     )
     return (
-        f"<Placemark><name>{markup(label_of(thing.now, roster))} track</name>"
+        f"<Placemark><name>{markup(label_of(thing.places[0], roster))} track</name>"
         f"<MultiGeometry>{lines}</MultiGeometry></Placemark>\n"
     )
 

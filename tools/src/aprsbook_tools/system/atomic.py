@@ -4,6 +4,8 @@ What is written lies beside the file under a name that begins with a dot and is 
 anything, and is renamed once it is on the disk. The file keeps its mode and its owner, and a link
 stays a link. Where the bytes are those that the file has, it isn't touched.
 """
+from __future__ import annotations
+
 import contextlib
 import errno
 import os
@@ -16,7 +18,6 @@ from typing import IO, Iterator, List, Optional, Sequence, Union
 from aprsbook_tools import stdout
 from aprsbook_tools.books import inputs
 from aprsbook_tools.errors import ExitStatus, Fault, said
-from aprsbook_tools.formats import log_file
 from aprsbook_tools.system import disk, packing
 
 try:
@@ -91,6 +92,8 @@ def is_log(path: str) -> bool:
     """Whether a file is a log by its name or by its first line."""
     if path.endswith(".log"):
         return True
+    from aprsbook_tools.formats import log_file  # where a file is replaced alone
+
     try:
         with open(path, "rb") as file:
             return log_file.begins_as_log(file.read(log_file.LINE + 1))

@@ -1,4 +1,6 @@
 """The clock by which commands wait, and tell how long something takes. Tests move it."""
+from __future__ import annotations
+
 import time
 
 

@@ -1,4 +1,6 @@
 """What waits until it is on the disk, and files that aren't reached through links."""
+from __future__ import annotations
+
 import contextlib
 import errno
 import os

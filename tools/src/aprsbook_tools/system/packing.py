@@ -1,4 +1,6 @@
 """Packed files, by the endings of their names. What unpacks one is imported once there is one."""
+from __future__ import annotations
+
 from typing import IO, Callable, Dict, Tuple, Type, cast
 
 

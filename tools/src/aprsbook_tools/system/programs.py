@@ -1,5 +1,7 @@
 """Runs aprsbook, aprsbook-table and aprsbook-fold. Where one fails, its complaint and its status
 are those of the Fault."""
+from __future__ import annotations
+
 import contextlib
 import itertools
 import os
@@ -16,6 +18,7 @@ Given = Union[bytes, IO[bytes], None]  # None: standard input as it is
 RUNNING: Set["subprocess.Popen[bytes]"] = set()  # what threads have started
 STARTING = threading.Lock()
 BLOCK = 1 << 16  # bytes that are read at a time
+MANY = 100  # files, which any system opens
 ENDED = threading.Event()  # whether a signal has asked for the end
 
 
@@ -50,8 +53,11 @@ def check_inputs(paths: Sequence[str]) -> None:
             raise Fault(f"{path} is empty, which no book is: put back a copy")
 
 
-def open_many_files() -> None:
-    """Lets this process, and those that it starts, open as many files as the system allows."""
+def open_many_files(words: int = MANY) -> None:
+    """Lets this process, and those that it starts, open as many files as the system allows, where
+    a command has many words."""
+    if words < MANY:
+        return  # as most do: what asks the system is imported late
     try:
         import resource
     except ImportError:  # not on Windows
@@ -183,7 +189,7 @@ def lines(*command: str, given: Given = None) -> Iterator[str]:
 
 def blocks(*command: str, given: Given = None) -> Iterator[List[str]]:
     """The same, many lines at once."""
-    open_many_files()
+    open_many_files(len(command))
     path = find(command[0])
     stderr.detail(f"runs {' '.join(command)}")
     with contextlib.ExitStack() as files:

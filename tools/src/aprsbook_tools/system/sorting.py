@@ -1,4 +1,6 @@
 """Sorts what memory doesn't hold, in runs on the disk."""
+from __future__ import annotations
+
 import contextlib
 import heapq
 import itertools

@@ -1,4 +1,6 @@
 """Lines that are read and written as they come, however many there are."""
+from __future__ import annotations
+
 import contextlib
 import sys
 from typing import IO, Iterator, Optional, Sequence
@@ -6,7 +8,6 @@ from typing import IO, Iterator, Optional, Sequence
 from aprsbook_tools import stderr, stdout
 from aprsbook_tools.books import inputs
 from aprsbook_tools.errors import Fault
-from aprsbook_tools.system import atomic
 
 BLOCK = 1 << 16  # bytes that are written at a time
 
@@ -50,6 +51,8 @@ def put(output: Optional[str], lines: Iterator[bytes], given: Sequence[str],
     """Writes lines into a file, whole or not at all; or to standard output, each at once where the
     input goes on."""
     if output is not None and output != "-":
+        from aprsbook_tools.system import atomic  # where a file is written alone
+
         with atomic.writing(output, given) as new:
             new.file.writelines(lines)
         return

@@ -1,5 +1,7 @@
 """Files and folders that go away by themselves. `tempfile` is imported once one is made, since it
 takes longer than many a report."""
+from __future__ import annotations
+
 import contextlib
 import os
 from typing import IO, Iterator

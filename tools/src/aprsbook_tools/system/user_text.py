@@ -1,4 +1,6 @@
 """Texts that people give: rosters, checkpoints, maps."""
+from __future__ import annotations
+
 import codecs
 
 from aprsbook_tools.errors import Fault, said
