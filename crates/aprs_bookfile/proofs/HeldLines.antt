@@ -1,8 +1,8 @@
 -- What is held of a line is judged as the whole line is.
 use Rattle.aprs_bookfile.proofs.Common.{◌≡◌, ℕ, zero, suc, ◌+◌, ◌-◌, ◌^◌, ◌<◌, ◌≤◌, Bool, true, false, List, [], ◌∷◌, ◌++◌, length, take, drop, Option, None, Some, Result, Ok, Err, inl, inr, refl, sym, ap, ◌∙◌, subst, append_assoc, append-nil, length-append, arith, and_parts, nat_tests, cases_lt, length-decimal-le, take-append-add, MomentForm, millis_of, Row}
-use Rattle.std.specs.Prelude.{nat_le}
-use Rattle.std.proofs.lemmas.List.{length-take-le, take_all, take-append-drop, take-append-le}
-use Rattle.aprs_bookfile.specs.HeldLine.{held_anyway, is_hopeless, is_wrong_place, Decides, IsHeldOf, IsLean}
+use Rattle.std.specs.Prelude.{nat_le, ◌&&◌}
+use Rattle.std.proofs.lemmas.List.{length-drop, length-take-le, take_all, take-append-drop, take-append-le}
+use Rattle.aprs_bookfile.specs.HeldLine.{held_anyway, is_hopeless, is_wrong_place, Decides, IsHeldOf, IsLean, Passes}
 use Rattle.aprs_bookfile.specs.Reader.{is_first, JudgesHeader, JudgesLine, JudgesRowLine}
 use Rattle.aprs_bookfile.specs.RowPlace.{place_in}
 use Rattle.aprs_bookfile.specs.RowReader.{JudgesKept}
@@ -17,7 +17,7 @@ use Rattle.aprs_bookfile.specs.declared.stage.Stage.{Stage}
 use Rattle.aprs_bookfile.specs.declared.stage.Stage.TheVariants.{Header, Rows, Done}
 use Rattle.aprs_bookfile.specs.declared.version.Version.{Version}
 use Rattle.aprs_bookfile.specs.declared.version.Version.TheVariants.{One, Two, Three}
-use Rattle.aprs_bookfile.proofs.RowPlaces.{no_row, place_in-none}
+use Rattle.aprs_bookfile.proofs.RowPlaces.{no_row, place_in-further, place_in-none}
 
 -- ---- headers and last lines are short
 
@@ -172,6 +172,41 @@ pub not_yet : (first : Bool) (size held i : ℕ) (place before : Option Place) (
 not_yet first size held i place before answer e p is other =
     ap (λ n. is_hopeless first n before) (sym e)
     ∙ ap (λ (o : Option Place). is_hopeless first size o) (sym p) ∙ sym is ∙ other
+
+and_none : (a : Bool) → (a && false) ≡ false
+and_none true = refl
+and_none false = refl
+
+-- bytes that were passed at once after others
+module _ (first : Bool) (held bytes : List ℕ) (i count : ℕ) (place after : Option Place)
+    (there : i ≤ length bytes) (is : place ≡ place_in (held ++ take i bytes))
+    (p : Passes first place (drop i bytes) count after) where
+  pub passed_within : i + count ≤ length bytes
+  passed_within = omega (arith, p.within, length-drop i bytes, there)
+
+  pub passed_place : after ≡ place_in (held ++ take (i + count) bytes)
+  passed_place = p.after_is ∙ place_in-further held bytes i count place is
+
+  passed_none : (m : ℕ) → 0 < m → m < count
+      → is_hopeless first (length held + (i + m)) (place_in (held ++ take (i + m) bytes)) ≡ false
+  passed_none m some less =
+      ap (λ (o : Option Place). is_hopeless first (length held + (i + m)) o)
+      (sym (place_in-further held bytes i m place is))
+      ∙ ap (λ b. nat_le held_anyway (length held + (i + m)) && b) (p.before m some less)
+      ∙ and_none (nat_le held_anyway (length held + (i + m)))
+
+  pub passed_before :
+      ((n : ℕ) → n < i + 1
+      → is_hopeless first (length held + n) (place_in (held ++ take n bytes)) ≡ false)
+      → (n : ℕ) → n < i + count
+      → is_hopeless first (length held + n) (place_in (held ++ take n bytes)) ≡ false
+  passed_before before n less = elim (cases_lt n (i + 1)) [
+    | inl lt ↦ before n lt
+    | inr ge ↦
+        let e : i + (n - i) ≡ n = omega (arith, ge) in
+        subst (λ k. is_hopeless first (length held + k) (place_in (held ++ take k bytes)) ≡ false)
+        e (passed_none (n - i) (omega (arith, ge)) (omega (arith, ge, less)))
+  ]
 
 take_front : (j n : ℕ) (l : List ℕ) → j ≤ n → take j (take n l) ≡ take j l
 take_front zero n l h = refl

@@ -1,11 +1,12 @@
 -- A row's line has a place after each beginning of it.
-use Rattle.aprs_bookfile.proofs.Common.{◌≡◌, ℕ, zero, suc, ◌*◌, ◌+◌, ◌/◌, ◌%◌, ◌<◌, ◌≤◌, true, false, List, [], ◌∷◌, ◌++◌, length, take, get_or, Option, None, Some, refl, sym, ap, ◌∙◌, append_assoc, arith, rules, AllByRecursion, list_all, join_with_byte, and_parts, nat_tests, nat_lt, recursion_from_All, length-encode_with, encode_lower, lower_digits, IsBytes, IsName, is_name_byte, MomentForm, Millis, Seconds, Row, last_moment}
+use Rattle.aprs_bookfile.proofs.Common.{◌≡◌, ℕ, zero, suc, ◌*◌, ◌+◌, ◌/◌, ◌%◌, ◌<◌, ◌≤◌, true, false, List, [], ◌∷◌, ◌++◌, length, drop, take, get_or, Option, None, Some, refl, sym, ap, ◌∙◌, append_assoc, arith, rules, AllByRecursion, list_all, join_with_byte, and_parts, nat_tests, nat_lt, recursion_from_All, length-encode_with, encode_lower, lower_digits, IsBytes, IsName, is_name_byte, MomentForm, Millis, Seconds, Row, last_moment}
 use Rattle.std.specs.Prelude.{nat_le}
+use Rattle.std.proofs.Math.Seq.{take-add}
 use Rattle.std.proofs.lemmas.List.{take_more}
 use Rattle.hex.specs.Hex.{encode_with}
 use Rattle.aprs_log.specs.Clock.{form_size}
 use Rattle.aprs_log.specs.Moment.{moment_text_in}
-use Rattle.aprs_bookfile.specs.RowPlace.{field_after, first_place, is_byte_of, is_digit_byte, last_after, least_of, most_of, next_after, place_after, place_in}
+use Rattle.aprs_bookfile.specs.RowPlace.{field_after, first_place, is_byte_of, is_digit_byte, last_after, least_of, most_of, next_after, place_after, place_further, place_in}
 use Rattle.aprs_bookfile.specs.Text.{row_line, IsSpelled}
 use Rattle.aprs_bookfile.specs.declared.row_place.Field.{Field}
 use Rattle.aprs_bookfile.specs.declared.row_place.Field.TheVariants.{Tag, First, Last, Receivers, Receiver, Frame}
@@ -37,6 +38,16 @@ place_in-next held bytes n h = sym (ap (λ l. place_in (held ++ l)) (take_more b
     ∙ ap place_in (sym (append_assoc held (take n bytes) (get_or bytes n 0 ∷ [])))
     ∙ last_after-append (Some first_place) (held ++ take n bytes) (get_or bytes n 0 ∷ []))
 
+-- some bytes more
+pub place_in-further : (held bytes : List ℕ) (i n : ℕ) (place : Option Place)
+    → place ≡ place_in (held ++ take i bytes)
+    → last_after place (take n (drop i bytes)) ≡ place_in (held ++ take (i + n) bytes)
+place_in-further held bytes i n place is =
+    ap (λ (o : Option Place). last_after o (take n (drop i bytes))) is
+    ∙ sym (last_after-append (Some first_place) (held ++ take i bytes) (take n (drop i bytes)))
+    ∙ ap place_in (append_assoc held (take i bytes) (take n (drop i bytes)))
+    ∙ ap (λ l. place_in (held ++ l)) (sym (take-add i n bytes))
+
 -- ---- a field
 
 abbrev at : Field → ℕ → Place
@@ -66,6 +77,30 @@ bytes_in field size (b ∷ text) own few =
     ap (λ (o : Option Place). last_after o text) (within field size b own.0 (omega arith))
     ∙ bytes_in field (size + 1) text own.1 (omega arith) ∙ ap
     (λ n. Some (at field n)) (omega arith)
+
+pub most_few : (field : Field) → most_of field ≤ 656
+most_few Tag = omega arith
+most_few First = omega arith
+most_few Last = omega arith
+most_few Receivers = omega arith
+most_few Receiver = omega arith
+most_few Frame = omega arith
+
+-- no byte more, and one byte more of the same field
+pub further_none : (p : Place) (bytes : List ℕ)
+    → last_after (Some p) (take 0 bytes) ≡ Some (place_further p 0)
+further_none p bytes = ap (λ n. Some (at p.field n)) (omega arith)
+
+pub further_by : (p : Place) (bytes : List ℕ) (i : ℕ) → i < length bytes
+    → p.size + i < most_of p.field → is_byte_of p.field (get_or bytes i 0) ≡ true
+    → last_after (Some p) (take i bytes) ≡ Some (place_further p i)
+    → last_after (Some p) (take (i + 1) bytes) ≡ Some (place_further p (i + 1))
+further_by p bytes i h few own is =
+    ap (last_after (Some p)) (take_more bytes i 0 h)
+    ∙ last_after-append (Some p) (take i bytes) (get_or bytes i 0 ∷ [])
+    ∙ ap (λ (o : Option Place). next_after o (get_or bytes i 0)) is
+    ∙ within p.field (p.size + i) (get_or bytes i 0) own few
+    ∙ ap (λ n. Some (at p.field n)) (omega arith)
 
 -- a field, or a name of one, and the byte that ends it
 ended_at : (field next : Field) (text : List ℕ) (stop : ℕ) (rest : List ℕ) → Fits field text

@@ -1,6 +1,6 @@
 -- What is held of a line that is read.
 use Rattle.std.specs.Prelude.{◌≡◌, ℕ, ◌+◌, ◌<◌, ◌≤◌, ◌&&◌, ◌⊎◌, Bool, true, false, List, ◌++◌, length, Option, None, Some, nat_le, take}
-use Rattle.aprs_bookfile.specs.RowPlace.{place_in}
+use Rattle.aprs_bookfile.specs.RowPlace.{last_after, place_in}
 use Rattle.aprs_bookfile.specs.declared.row_place.Place.{Place}
 
 -- More bytes than a header or a last line has.
@@ -39,3 +39,13 @@ pub record Decides (first : Bool) (held bytes : List ℕ) (count : ℕ) (place :
       → is_hopeless first (length held + n) (place_in (held ++ take n bytes)) ≡ false
   pub stops : (count ≡ length bytes)
       ⊎ (is_hopeless first (length held + count) place ≡ true)
+
+-- So many of these bytes, at least one, are passed at once, and this is the place after them. After
+-- fewer of them the line isn't wrong yet.
+pub record Passes (first : Bool) (place : Option Place) (bytes : List ℕ) (count : ℕ)
+    (after : Option Place) : Type 0 where
+  pub some : 0 < count
+  pub within : count ≤ length bytes
+  pub after_is : after ≡ last_after place (take count bytes)
+  pub before : (n : ℕ) → 0 < n → n < count
+      → is_wrong_place first (last_after place (take n bytes)) ≡ false

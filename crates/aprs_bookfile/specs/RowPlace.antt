@@ -57,6 +57,10 @@ place_within p = if nat_lt p.size (most_of p.field)
     then Some (record { field = p.field; size = p.size + 1 })
     else None
 
+-- The place after so many bytes more of the same field.
+abbrev pub place_further : Place → ℕ → Place
+place_further p n = record { field = p.field; size = p.size + n }
+
 -- The place after this byte, which ends the field or a name, if it may be so short.
 abbrev pub place_beyond : Place → ℕ → Option Place
 place_beyond p b = if nat_lt p.size (least_of p.field)

@@ -6,7 +6,8 @@
 //!   which it is hopeless. `first` says whether it is the text's first line.
 //! - `IsLean`: no byte is held after which the line was hopeless already.
 //! - `Decides`: so many of these bytes decide what the line is, and this is the place after them.
-ghost use Rattle.std.specs.Prelude.{◌≡◌, ◌+◌, ◌≤◌, ◌++◌, ℕ, List, [], OnErr, OnOk, IsTrue, ◌↔◌, length};
+//! - `Passes`: so many bytes, at least one, are passed at once. Before the last one it isn't wrong.
+ghost use Rattle.std.specs.Prelude.{◌≡◌, ◌+◌, ◌<◌, ◌≤◌, ◌++◌, ℕ, List, [], false, Some, OnErr, OnOk, IsTrue, ◌↔◌, length};
 ghost use Rattle.aprs_bookfile.specs.HeldLine as Spec;
 
 use crate::row_place::{Place, next_after};
@@ -91,14 +92,42 @@ impl<A: Allocator + Copy> HeldLine<A> {
     {
         let held = self.bytes.len();
         let mut place = self.place;
-        for i in 0..bytes.len() {
+        let mut i = 0;
+        while i < bytes.len() {
             if is_hopeless(first, held + i, place) {
                 return (i, place);
             }
-            place = next_after(place, bytes[i]);
+            let (count, after) = pass(first, place, &bytes[i..]);
+            place = after;
+            i += count;
         }
         (bytes.len(), place)
     }
+}
+
+/// How many of these bytes are passed at once, at least one, and the place after them. Where a line
+/// may be a row's, they are those that go on with the field.
+fn pass(first: bool, place: Option<Place>, bytes: &[u8]) -> (usize, Option<Place>)
+    requires { 0 < length bytes.now }
+    ensures { Spec.Passes first place bytes.now result.0 result.1 }
+{
+    match place {
+        Some(place) if !first => pass_field(place, bytes),
+        _ => (1, next_after(place, bytes[0])),
+    }
+}
+
+/// How many of these bytes, at least one, are passed at once after this place, and the place after
+/// them.
+fn pass_field(place: Place, bytes: &[u8]) -> (usize, Option<Place>)
+    requires { 0 < length bytes.now }
+    ensures { Spec.Passes false (Some place) bytes.now result.0 result.1 }
+{
+    let count = place.count_more(bytes);
+    if count == 0 {
+        return (1, place.after(bytes[0]));
+    }
+    (count, Some(place.further(count)))
 }
 
 /// Whether each line that begins with so many bytes, and has this place after them, is wrong, the

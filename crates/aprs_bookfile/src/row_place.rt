@@ -1,5 +1,5 @@
 //! Where in a row's line a byte stands.
-ghost use Rattle.std.specs.Prelude.{◌≡◌};
+ghost use Rattle.std.specs.Prelude.{◌≡◌, ℕ, ◌+◌, ◌<◌, ◌≤◌, ◌^◌, Some, length, take};
 ghost use Rattle.aprs_bookfile.specs.RowPlace as Spec;
 
 /// A field of a row's line.
@@ -48,6 +48,35 @@ impl Place {
             return None;
         }
         beginning_of(field_after(self.field, byte))
+    }
+
+    /// How many of these bytes, which come next, go on with the same field, which isn't too long
+    /// then.
+    pub fn count_more(self, bytes: &[u8]) -> usize
+        ensures within { result ≤ length bytes.now }
+        ensures short { 0 < result → self.size + result ≤ Spec.most_of self.field }
+        ensures more { (n : ℕ) → n ≤ result
+            → Spec.last_after (Some self) (take n bytes.now) ≡ Some (Spec.place_further self n) }
+    {
+        let room = most_of(self.field).saturating_sub(self.size);
+        let most = room.min(bytes.len());
+        for i in 0..most {
+            if !is_byte_of(self.field, bytes[i]) {
+                return i;
+            }
+        }
+        most
+    }
+
+    /// The place after so many bytes more of the same field. Their sum has to be below 2^64.
+    pub fn further(self, count: usize) -> Place
+        requires { self.size + count < 2 ^ 64 }
+        ensures { result ≡ Spec.place_further self count }
+    {
+        Place {
+            field: self.field,
+            size: self.size + count,
+        }
     }
 
     /// The place after one byte more of the same field, or `None` where that is too long.
