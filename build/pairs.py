@@ -2,23 +2,26 @@
 """Changes each definition of a crate in small ways, on a copy, and tells which changes no worked
 example refuses: such a definition is pinned by none, since its body can be changed with it.
 
-usage: build/pairs.py [--jobs N] [--list] [--draw NUMBER] [--edit FILE]... CRATE [WORD..]
+usage: build/pairs.py [--jobs N] [--list] [--draw NUMBER] [--but FILE]... [--edit FILE]... CRATE [WORD..]
 
 Changes the definitions of the crate, or those changes that have one of these words. --list shows the changes, and
-tries none; --draw tries so many of them, drawn by lot; --edit tries a change by hand, a file with lines `file:`,
-`old:`, `new:` as an edit that must fail, in place of the small ones. --jobs N makes so many checks side by side.
+tries none; --draw tries so many of them, drawn by lot; --but leaves out those that a file tells of: a list, or what
+an earlier run printed. --edit tries a change by hand, a file with lines `file:`, `old:`, `new:` as an edit that must
+fail, in place of the small ones. --jobs N makes so many checks side by side.
 
 A change is one more or one less in a number, another last character in a text, `||` for `&&`, `<` for `<=` and the
 reverse, `false` for `true` and the reverse, or the answers of two cases exchanged. Where the changed word needs an
 import, it gets one.
 
-Several changes are tried in one check of the examples. Each has there an example's clause of its own: one that cites
+Several changes are tried in one check of examples. Each has there an example's clause of its own: one that cites
 what it changes, and nothing that another one changes. Where that clause is refused, so is the change. Changes that
-are left are put together otherwise, then tried alone with the laws, and at last on the whole crate: where that alone
-refuses one, a lemma does. For each is told what refuses it, or that it STANDS. The last line counts them. Needs rt,
-and the crate proved.
+are left are put together otherwise, and then so with the laws, whose proofs too cite nothing that another one changes.
+What is left is tried alone with examples and laws, and at last on the whole crate: where that alone refuses a change,
+a lemma does. For each is told what refuses it, or that it STANDS. The last line counts them. Needs rt, and the crate
+proved.
 """
 import argparse
+import collections
 import concurrent.futures
 import enum
 import os
@@ -34,7 +37,7 @@ sys.dont_write_bytecode = True
 import crates
 import edits
 import wrong_bodies
-from rattle_text import START, Key
+from rattle_text import START, Key, imports
 from statement import Statement, functions_of
 
 # modules of specs/ that hold examples and laws alone
@@ -55,7 +58,8 @@ REJECTED = re.compile(r"^(?:\./)?(specs/\S+?):(\d+):\d+: error: (.*)$")
 # at most so many changes in one check
 MOST = 12
 
-Clause = Tuple[str, str]  # an example's function, and its clause
+Clause = Tuple[str, str]  # an example's function, and its clause; of a law the function alone
+Cited = Dict[Clause, FrozenSet[Key]]  # what clauses cite
 Lines = Dict[Tuple[str, int], str]  # what stands in place of a line of a file
 
 
@@ -148,6 +152,17 @@ def change_by_hand(path: pathlib.Path, crate: str) -> Change:
     return Change(path.name, lines, None)
 
 
+def without_told(changes: Sequence[Change], told: Sequence[str]) -> List[Change]:
+    """The changes that these lines don't tell of. Those that are said alike are left out where each of
+    them is told."""
+    count = collections.Counter(it.said for it in changes)
+    return [
+        change for change in changes
+        if sum(it == change.said or it.startswith(change.said + ": ") for it in told)
+        < count[change.said]
+    ]
+
+
 def with_imports(text: str) -> str:
     """A file that imports also the words that stand in place of its own, from where these come."""
     code = "\n".join(it for it in text.split("\n") if not it.startswith(("use ", "--")))
@@ -160,22 +175,49 @@ def with_imports(text: str) -> str:
     return text
 
 
-# ---- what examples cite
+# ---- what examples and laws cite
 
 
-def cited_by_examples(crate: str) -> Dict[Clause, FrozenSet[Key]]:
-    """The definitions of this crate that each clause of its examples cites, directly or through others."""
+def cited_by(crate: str, topic: str) -> Cited:
+    """The definitions of this crate that each clause of its examples, or each of its laws and what proves that,
+    cites, directly or through others."""
     facts, found = Statement(), {}
-    for path in sorted(pathlib.Path(f"crates/{crate}/src").rglob("example*/*.rt")):
+    source = pathlib.Path(f"crates/{crate}/src")
+    for path in sorted([*source.glob(f"{topic}.rt"), *source.glob(f"{topic}/**/*.rt")]):
         for call in functions_of(str(path), lambda *_: True):
-            for name, text in call.clauses:
-                cited = facts.closure(facts.roots([(name, text)], call.scope))
-                found[call.name.split("::")[-1], name] = frozenset(
-                    it for it in cited if it.crate == crate)
+            name = call.name.split("::")[-1]
+            if topic == "laws":
+                proved = {it for it in map(facts.found, names_of_proof(crate, name, facts)) if it}
+                clauses = [("", call.clauses, proved)]
+            else:
+                clauses = [(it[0], [it], set()) for it in call.clauses]
+            for clause, said, proved in clauses:
+                closure = facts.closure(facts.roots(said, call.scope) | proved)
+                found[name, clause] = frozenset(it for it in closure if it.crate == crate)
     return found
 
 
-def put_together(changes: Sequence[Change], cited: Dict[Clause, FrozenSet[Key]]) -> List[List[Change]]:
+def names_of_proof(crate: str, law: str, facts: Statement) -> Set[Key]:
+    """What the proof of a law imports of specs/, itself or through other files of proofs/."""
+    todo = sorted(pathlib.Path(f"crates/{crate}/proofs/laws").glob(f"**/{law}/*.antt"))
+    seen: Set[pathlib.Path] = set()
+    names: Set[Key] = set()
+    while todo:
+        path = todo.pop()
+        if path in seen or not path.is_file():
+            continue
+        seen.add(path)
+        for key in imports(path.read_text(encoding="utf-8"), r"use").values():
+            if key.module.startswith("proofs."):
+                todo.append(pathlib.Path("crates", key.crate, *key.module.split(".")).with_suffix(".antt"))
+            elif key.name:
+                names.add(key)
+            elif key[:2] in facts.modules:
+                names.update(facts.modules[key[:2]].names)
+    return names
+
+
+def put_together(changes: Sequence[Change], cited: Cited) -> List[List[Change]]:
     """Changes in lots, in each of which every one has a clause of its own. Those that no example cites are each
     alone."""
     lots: List[List[Change]] = []
@@ -189,7 +231,7 @@ def put_together(changes: Sequence[Change], cited: Dict[Clause, FrozenSet[Key]])
     return lots
 
 
-def own_clauses(change: Change, lot: Sequence[Change], cited: Dict[Clause, FrozenSet[Key]]) -> Set[Clause]:
+def own_clauses(change: Change, lot: Sequence[Change], cited: Cited) -> Set[Clause]:
     """The clauses that cite what this change of a lot changes, and nothing that another one does."""
     others = {it.key for it in lot if it is not change}
     if change.key in others:
@@ -232,9 +274,12 @@ class Copies:
 
 
 def refused_clauses(said: Sequence[str]) -> Set[Clause]:
-    """The clauses of examples that a check didn't prove."""
+    """The clauses of examples that a check didn't prove, and the functions."""
     found = set()
     for line in said:
+        function = re.match(r"^fn \S*?::(\w+): (?:not proved|no proof)", line)
+        if function:
+            found.add((function[1], ""))
         unproved = UNPROVED.match(line)
         for name in re.findall(r"`returns(?:-clause-)?([^`]*)`", unproved[2]) if unproved else ():
             found.add((unproved[1], name or "ensures") if unproved else ("", ""))
@@ -260,7 +305,7 @@ def first_refusals(said: Sequence[str]) -> str:
 class Trial:
     """The changes of a crate, and what is told of each."""
 
-    def __init__(self, copies: Copies, cited: Dict[Clause, FrozenSet[Key]]) -> None:
+    def __init__(self, copies: Copies, cited: Dict[str, Cited]) -> None:
         self.copies, self.cited = copies, cited
         self.ends: Dict[int, End] = {}
 
@@ -273,22 +318,23 @@ class Trial:
         """Those of which nothing is told yet."""
         return [it for it in changes if id(it) not in self.ends]
 
-    def try_lot(self, lot: Sequence[Change]) -> None:
-        """Tries a lot in one check of the examples, without what doesn't compile."""
-        said = self.copies.check(lot, ["examples"])
+    def try_lot(self, lot: Sequence[Change], topic: str) -> None:
+        """Tries a lot in one check of the examples or the laws, without what doesn't compile."""
+        own = {id(it): own_clauses(it, lot, self.cited[topic]) for it in lot}
+        said = self.copies.check(lot, sorted({name for it in own.values() for name, _ in it}))
         hurt = [it for it in lot if rejection(it, said)]
         for change in hurt:
             self.tell(change, End.REJECTED, rejection(change, said))
         if hurt:
             rest = [it for it in lot if it not in hurt]
             if rest:
-                self.try_lot(rest)
+                self.try_lot(rest, topic)
             return
         failed = refused_clauses(said)
         for change in lot:
-            own = sorted(own_clauses(change, lot, self.cited) & failed)
-            if own:
-                self.tell(change, End.REFUSED, ", ".join(".".join(it) for it in own[:3]))
+            by = sorted(own[id(change)] & failed)
+            if by:
+                self.tell(change, End.REFUSED, ", ".join(".".join(it).rstrip(".") for it in by[:3]))
 
     def try_alone(self, change: Change) -> None:
         """Tries a change by examples and laws, and then on the whole crate."""
@@ -304,13 +350,13 @@ class Trial:
             self.tell(change, End.STANDS)
 
     def run(self, changes: Sequence[Change], jobs: int) -> None:
-        """Tries all, twice in lots, and the rest alone."""
+        """Tries all in lots, twice with examples and twice with laws, and the rest alone."""
         with concurrent.futures.ThreadPoolExecutor(jobs) as pool:
-            for seed in (1, 2):
-                mixed = random.Random(seed).sample(self.left(changes), len(self.left(changes)))
-                lots = [it for it in put_together(mixed, self.cited)
-                        if own_clauses(it[0], it, self.cited)]
-                list(pool.map(self.try_lot, lots))
+            for seed, topic in enumerate(("examples", "examples", "laws", "laws")):
+                left, cited = self.left(changes), self.cited[topic]
+                lots = [it for it in put_together(random.Random(seed).sample(left, len(left)), cited)
+                        if own_clauses(it[0], it, cited)]
+                list(pool.map(lambda lot, of=topic: self.try_lot(lot, of), lots))
             list(pool.map(self.try_alone, self.left(changes)))
 
 
@@ -322,6 +368,7 @@ def main(words: Optional[List[str]] = None) -> int:
     parser.add_argument("--jobs", type=int, default=1, metavar="N")
     parser.add_argument("--list", action="store_true")
     parser.add_argument("--draw", type=int, default=0, metavar="NUMBER")
+    parser.add_argument("--but", action="append", default=[], type=pathlib.Path, metavar="FILE")
     parser.add_argument("--edit", action="append", default=[], type=pathlib.Path, metavar="FILE")
     asked = parser.parse_args(words)
     folder = pathlib.Path("crates", asked.crate, "specs")
@@ -330,13 +377,16 @@ def main(words: Optional[List[str]] = None) -> int:
         change for name in names for change in changes_of(asked.crate, f"specs/{name}")
         if not asked.words or any(word in change.said for word in asked.words)
     ]
+    for path in asked.but:
+        changes = without_told(changes, path.read_text(encoding="utf-8").split("\n"))
     if asked.draw:
         changes = random.Random(asked.crate).sample(changes, min(asked.draw, len(changes)))
     if asked.list:
         print("\n".join(it.said for it in changes))
         return 0
+    cited = {it: cited_by(asked.crate, it) for it in ("examples", "laws")}
     with tempfile.TemporaryDirectory(prefix="pairs-") as place:
-        trial = Trial(Copies(asked.crate, pathlib.Path(place), asked.jobs), cited_by_examples(asked.crate))
+        trial = Trial(Copies(asked.crate, pathlib.Path(place), asked.jobs), cited)
         trial.run(changes, asked.jobs)
     ends = list(trial.ends.values())
     print(f"{ends.count(End.REFUSED)} refused, {ends.count(End.BY_A_LEMMA)} by a lemma alone,"
