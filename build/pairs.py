@@ -377,8 +377,8 @@ def main(words: Optional[List[str]] = None) -> int:
         change for name in names for change in changes_of(asked.crate, f"specs/{name}")
         if not asked.words or any(word in change.said for word in asked.words)
     ]
-    for path in asked.but:
-        changes = without_told(changes, path.read_text(encoding="utf-8").split("\n"))
+    told = [line for path in asked.but for line in path.read_text(encoding="utf-8").split("\n")]
+    changes = without_told(changes, told)
     if asked.draw:
         changes = random.Random(asked.crate).sample(changes, min(asked.draw, len(changes)))
     if asked.list:

@@ -61,6 +61,12 @@ class Changes(unittest.TestCase):
             "Bytes: case_of false = 6  (7)",
         ])
 
+    def test_those_that_a_file_tells_of_are_left_out(self) -> None:
+        every = [change("one"), change("two"), change("two")]
+        told = ["one: first.reads", "two: STANDS", "other"]
+        self.assertEqual(pairs.without_told(every, told), every[1:])
+        self.assertEqual(pairs.without_told(every, [*told, "two"]), [])
+
     def test_other_words_are_imported(self) -> None:
         changed = SPECS.replace('"/" && true', '"/" || true')
         self.assertIn("◌&&◌, ◌||◌, true", pairs.with_imports(changed))
@@ -82,7 +88,7 @@ class Lots(unittest.TestCase):
         said = ["fn low::examples::marks::first: no proof: expected answers in ./proofs/Answers.antt;"
                 " `search` did not prove `returns-clause-reads`, `returns`",
                 "fn low::examples::marks::second: proved"]
-        self.assertEqual(pairs.refused_clauses(said), {("first", "reads"), ("first", "ensures")})
+        self.assertEqual(pairs.refused_clauses(said), {("first", "reads"), ("first", "ensures"), ("first", "")})
 
     def test_a_line_that_does_not_compile(self) -> None:
         said = ["./specs/Bytes.antt:6:3: error: `nat_le` is not in scope"]
