@@ -2,23 +2,25 @@
 """Changes each definition of a crate in small ways, on a copy, and tells which changes no worked
 example refuses: such a definition is pinned by none, since its body can be changed with it.
 
-usage: build/pairs.py [--jobs N] [--list] [--draw NUMBER] [--but FILE]... [--edit FILE]... CRATE [WORD..]
+usage: build/pairs.py [--jobs N] [--list] [--draw NUMBER] [--but FILE]... [--edit FILE]...
+                      CRATE [WORD..]
 
-Changes the definitions of the crate, or those changes that have one of these words. --list shows the changes, and
-tries none; --draw tries so many of them, drawn by lot; --but leaves out those that a file tells of: a list, or what
-an earlier run printed. --edit tries a change by hand, a file with lines `file:`, `old:`, `new:` as an edit that must
-fail, in place of the small ones. --jobs N makes so many checks side by side.
+Changes the definitions of the crate, or those changes that have one of these words. --list shows
+the changes, and tries none; --draw tries so many of them, drawn by lot; --but leaves out those that
+a file tells of: a list, or what an earlier run printed. --edit tries a change by hand, a file with
+lines `file:`, `old:`, `new:` as an edit that must fail, in place of the small ones. --jobs N makes
+so many checks side by side.
 
-A change is one more or one less in a number, another last character in a text, `||` for `&&`, `<` for `<=` and the
-reverse, `false` for `true` and the reverse, or the answers of two cases exchanged. Where the changed word needs an
-import, it gets one.
+A change is one more or one less in a number, another last character in a text, `||` for `&&`, `<`
+for `<=` and the reverse, `false` for `true` and the reverse, or the answers of two cases exchanged.
+Where the changed word needs an import, it gets one.
 
-Several changes are tried in one check of examples. Each has there an example's clause of its own: one that cites
-what it changes, and nothing that another one changes. Where that clause is refused, so is the change. Changes that
-are left are put together otherwise, and then so with the laws, whose proofs too cite nothing that another one changes.
-What is left is tried alone with examples and laws, and at last on the whole crate: where that alone refuses a change,
-a lemma does. For each is told what refuses it, or that it STANDS. The last line counts them. Needs rt, and the crate
-proved.
+Several changes are tried in one check of examples. Each has there an example's clause of its own:
+one that cites what it changes, and nothing that another one changes. Where that clause is refused,
+so is the change. Changes that are left are put together otherwise, and then so with the laws, whose
+proofs too cite nothing that another one changes. What is left is tried alone with examples and
+laws, and at last on the whole crate: where that alone refuses a change, a lemma does. For each is
+told what refuses it, or that it STANDS. The last line counts them. Needs rt, and the crate proved.
 """
 import argparse
 import collections
@@ -106,8 +108,8 @@ def can_be_exchanged(this: "re.Match[str]", following: "re.Match[str]") -> bool:
 
 
 def is_changed(line: str, numbered: Sequence[str]) -> bool:
-    """Whether a line of a definition says what can be said otherwise. Numbers of faults and their names are held
-    to docs/formats.md by tests/documents/numbers.sh."""
+    """Whether a line of a definition says what can be said otherwise. Numbers of faults and their
+    names are held to docs/formats.md by tests/documents/numbers.sh."""
     if any(line.startswith((f"{it}_number ", f"{it}_name ")) for it in numbered):
         return False
     if re.match(r"--|(pub )?(use|mod|module|infix)|\s*--|.* : .*Type|\s*→ .*Type \d$", line):
@@ -132,7 +134,8 @@ def changes_of(crate: str, file: str) -> Iterator[Change]:
         for found in WORD.finditer(code):
             for begin, end, other in otherwise(found):
                 new = code[:begin] + other + code[end:]
-                yield Change(f"{module}: {new.strip()}  ({code[begin:end]})", {(file, at): new}, key)
+                said = f"{module}: {new.strip()}  ({code[begin:end]})"
+                yield Change(said, {(file, at): new}, key)
         this, following = CASE.match(line), CASE.match(lines[at + 1] if at + 1 < len(lines) else "")
         if this and following and can_be_exchanged(this, following):
             swapped = [f"{it[1]}{it[2] or ''} = {of[3]}"
@@ -144,7 +147,8 @@ def changes_of(crate: str, file: str) -> Iterator[Change]:
 def change_by_hand(path: pathlib.Path, crate: str) -> Change:
     """The change that a file of an edit holds."""
     edit = wrong_bodies.edit_of(path, crates.TOP / "crates" / crate)
-    before = {it: (crates.TOP / "crates" / crate / it).read_text(encoding="utf-8") for it in edit.lines}
+    folder = crates.TOP / "crates" / crate
+    before = {it: (folder / it).read_text(encoding="utf-8") for it in edit.lines}
     lines: Lines = {}
     for file, text in wrong_bodies.with_edits(before, [edit]).items():
         old, new = before[file].split("\n"), text.split("\n")
@@ -153,8 +157,8 @@ def change_by_hand(path: pathlib.Path, crate: str) -> Change:
 
 
 def without_told(changes: Sequence[Change], told: Sequence[str]) -> List[Change]:
-    """The changes that these lines don't tell of. Those that are said alike are left out where each of
-    them is told."""
+    """The changes that these lines don't tell of. Those that are said alike are left out where each
+    of them is told."""
     count = collections.Counter(it.said for it in changes)
     return [
         change for change in changes
@@ -179,8 +183,8 @@ def with_imports(text: str) -> str:
 
 
 def cited_by(crate: str, topic: str) -> Cited:
-    """The definitions of this crate that each clause of its examples, or each of its laws and what proves that,
-    cites, directly or through others."""
+    """The definitions of this crate that each clause of its examples, or each of its laws and what
+    proves that, cites, directly or through others."""
     facts, found = Statement(), {}
     source = pathlib.Path(f"crates/{crate}/src")
     for path in sorted([*source.glob(f"{topic}.rt"), *source.glob(f"{topic}/**/*.rt")]):
@@ -209,7 +213,8 @@ def names_of_proof(crate: str, law: str, facts: Statement) -> Set[Key]:
         seen.add(path)
         for key in imports(path.read_text(encoding="utf-8"), r"use").values():
             if key.module.startswith("proofs."):
-                todo.append(pathlib.Path("crates", key.crate, *key.module.split(".")).with_suffix(".antt"))
+                file = pathlib.Path("crates", key.crate, *key.module.split("."))
+                todo.append(file.with_suffix(".antt"))
             elif key.name:
                 names.add(key)
             elif key[:2] in facts.modules:
@@ -218,12 +223,13 @@ def names_of_proof(crate: str, law: str, facts: Statement) -> Set[Key]:
 
 
 def put_together(changes: Sequence[Change], cited: Cited) -> List[List[Change]]:
-    """Changes in lots, in each of which every one has a clause of its own. Those that no example cites are each
-    alone."""
+    """Changes in lots, in each of which every one has a clause of its own. Those that no clause
+    cites are each alone."""
     lots: List[List[Change]] = []
     for change in changes:
         for lot in lots:
-            if len(lot) < MOST and all(own_clauses(it, [*lot, change], cited) for it in [*lot, change]):
+            more = [*lot, change]
+            if len(lot) < MOST and all(own_clauses(it, more, cited) for it in more):
                 lot.append(change)
                 break
         else:
@@ -232,7 +238,8 @@ def put_together(changes: Sequence[Change], cited: Cited) -> List[List[Change]]:
 
 
 def own_clauses(change: Change, lot: Sequence[Change], cited: Cited) -> Set[Clause]:
-    """The clauses that cite what this change of a lot changes, and nothing that another one does."""
+    """The clauses that cite what this change of a lot changes, and nothing that another one
+    does."""
     others = {it.key for it in lot if it is not change}
     if change.key in others:
         return set()
@@ -297,8 +304,9 @@ def rejection(change: Change, said: Sequence[str]) -> str:
 
 def first_refusals(said: Sequence[str]) -> str:
     """The first few names that a failed check gives."""
-    names = [it[1] for line in said for it in [re.match(r"^fn \S*?::(\w+): no(?:t| proof)", line)] if it]
-    names += [it[1] for line in said for it in [re.match(r"^(?:\./)?(proofs/\S+?):.*error", line)] if it]
+    patterns = (r"^fn \S*?::(\w+): no(?:t| proof)", r"^(?:\./)?(proofs/\S+?):.*error")
+    found = [re.match(pattern, line) for pattern in patterns for line in said]
+    names = [it[1] for it in found if it]
     return ", ".join(dict.fromkeys(names[:6])) or said[-1][:200]
 
 
@@ -354,15 +362,16 @@ class Trial:
         with concurrent.futures.ThreadPoolExecutor(jobs) as pool:
             for seed, topic in enumerate(("examples", "examples", "laws", "laws")):
                 left, cited = self.left(changes), self.cited[topic]
-                lots = [it for it in put_together(random.Random(seed).sample(left, len(left)), cited)
-                        if own_clauses(it[0], it, cited)]
+                mixed = random.Random(seed).sample(left, len(left))
+                lots = [it for it in put_together(mixed, cited) if own_clauses(it[0], it, cited)]
                 list(pool.map(lambda lot, of=topic: self.try_lot(lot, of), lots))
             list(pool.map(self.try_alone, self.left(changes)))
 
 
 def main(words: Optional[List[str]] = None) -> int:
     """Does what the words ask for."""
-    parser = argparse.ArgumentParser(description="Changes definitions, and tells what refuses that.")
+    parser = argparse.ArgumentParser(
+        description="Changes definitions, and tells what refuses that.")
     parser.add_argument("crate", metavar="CRATE")
     parser.add_argument("words", nargs="*", metavar="WORD")
     parser.add_argument("--jobs", type=int, default=1, metavar="N")

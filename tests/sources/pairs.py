@@ -1,6 +1,6 @@
 #!/usr/bin/env python3
-"""Tries build/pairs.py on texts: what is said otherwise, what is imported for it, and which changes share
-a check.
+"""Tries build/pairs.py on texts: what is said otherwise, what is imported for it, and which changes
+share a check.
 usage: tests/sources/pairs.py
 """
 import pathlib
@@ -85,10 +85,11 @@ class Lots(unittest.TestCase):
         self.assertEqual(pairs.put_together([one, change("one")], cited), [[one], [change("one")]])
 
     def test_clauses_that_are_not_proved(self) -> None:
-        said = ["fn low::examples::marks::first: no proof: expected answers in ./proofs/Answers.antt;"
-                " `search` did not prove `returns-clause-reads`, `returns`",
+        said = ["fn low::examples::marks::first: no proof: expected answers in"
+                " ./proofs/Answers.antt; `search` did not prove `returns-clause-reads`, `returns`",
                 "fn low::examples::marks::second: proved"]
-        self.assertEqual(pairs.refused_clauses(said), {("first", "reads"), ("first", "ensures"), ("first", "")})
+        wanted = {("first", name) for name in ("reads", "ensures", "")}
+        self.assertEqual(pairs.refused_clauses(said), wanted)
 
     def test_a_line_that_does_not_compile(self) -> None:
         said = ["./specs/Bytes.antt:6:3: error: `nat_le` is not in scope"]
