@@ -26,6 +26,7 @@ import argparse
 import collections
 import concurrent.futures
 import enum
+import functools
 import os
 import pathlib
 import random
@@ -61,16 +62,25 @@ REJECTED = re.compile(r"^(?:\./)?(specs/\S+?):(\d+):\d+: error: (.*)$")
 MOST = 12
 
 Clause = Tuple[str, str]  # an example's function, and its clause; of a law the function alone
-Cited = Dict[Clause, FrozenSet[Key]]  # what clauses cite
+Cited = Dict[Clause, "Citing"]
 Lines = Dict[Tuple[str, int], str]  # what stands in place of a line of a file
 
 
 class Change(NamedTuple):
-    """What is said otherwise, in which lines, of which definition."""
+    """What is said otherwise, in which lines, of which definition, and the text in place of which
+    another one stands, if it is a text."""
 
     said: str
     lines: Lines
     key: Optional[Key]
+    word: str = ""
+
+
+class Citing(NamedTuple):
+    """What a clause cites, directly or through others, and the clause itself."""
+
+    keys: FrozenSet[Key]
+    text: str
 
 
 class End(enum.Enum):
@@ -135,7 +145,7 @@ def changes_of(crate: str, file: str) -> Iterator[Change]:
             for begin, end, other in otherwise(found):
                 new = code[:begin] + other + code[end:]
                 said = f"{module}: {new.strip()}  ({code[begin:end]})"
-                yield Change(said, {(file, at): new}, key)
+                yield Change(said, {(file, at): new}, key, found[2] or "")
         this, following = CASE.match(line), CASE.match(lines[at + 1] if at + 1 < len(lines) else "")
         if this and following and can_be_exchanged(this, following):
             swapped = [f"{it[1]}{it[2] or ''} = {of[3]}"
@@ -197,7 +207,8 @@ def cited_by(crate: str, topic: str) -> Cited:
                 clauses = [(it[0], [it], set()) for it in call.clauses]
             for clause, said, proved in clauses:
                 closure = facts.closure(facts.roots(said, call.scope) | proved)
-                found[name, clause] = frozenset(it for it in closure if it.crate == crate)
+                keys = frozenset(it for it in closure if it.crate == crate)
+                found[name, clause] = Citing(keys, " ".join(text for _, text in said))
     return found
 
 
@@ -243,7 +254,17 @@ def own_clauses(change: Change, lot: Sequence[Change], cited: Cited) -> Set[Clau
     others = {it.key for it in lot if it is not change}
     if change.key in others:
         return set()
-    return {it for it, keys in cited.items() if change.key in keys and not others & keys}
+    return {it for it, of in cited.items() if change.key in of.keys and not others & of.keys}
+
+
+def first_tried(change: Change, own: Set[Clause], cited: Cited) -> Set[str]:
+    """The functions of a change's own clauses that are tried first: two with its word, and with
+    little to compute."""
+    size: Dict[str, int] = collections.Counter()
+    for name, clause in own:
+        size[name] += len(cited[name, clause].text)
+    named = {name for name, clause in own if f'"{change.word}"' in cited[name, clause].text}
+    return set(sorted(size, key=lambda name: (name not in named, size[name], name))[:2])
 
 
 # ---- checks
@@ -326,17 +347,22 @@ class Trial:
         """Those of which nothing is told yet."""
         return [it for it in changes if id(it) not in self.ends]
 
-    def try_lot(self, lot: Sequence[Change], topic: str) -> None:
-        """Tries a lot in one check of the examples or the laws, without what doesn't compile."""
-        own = {id(it): own_clauses(it, lot, self.cited[topic]) for it in lot}
-        said = self.copies.check(lot, sorted({name for it in own.values() for name, _ in it}))
+    def try_lot(self, lot: Sequence[Change], topic: str, is_first: bool) -> None:
+        """Tries a lot in one check of the examples or the laws, at first of few of them, without
+        what doesn't compile."""
+        cited = self.cited[topic]
+        own = {id(it): own_clauses(it, lot, cited) for it in lot}
+        names = {name for it in own.values() for name, _ in it}
+        if is_first:
+            names = {name for it in lot for name in first_tried(it, own[id(it)], cited)}
+        said = self.copies.check(lot, sorted(names))
         hurt = [it for it in lot if rejection(it, said)]
         for change in hurt:
             self.tell(change, End.REJECTED, rejection(change, said))
         if hurt:
             rest = [it for it in lot if it not in hurt]
             if rest:
-                self.try_lot(rest, topic)
+                self.try_lot(rest, topic, is_first)
             return
         failed = refused_clauses(said)
         for change in lot:
@@ -364,7 +390,9 @@ class Trial:
                 left, cited = self.left(changes), self.cited[topic]
                 mixed = random.Random(seed).sample(left, len(left))
                 lots = [it for it in put_together(mixed, cited) if own_clauses(it[0], it, cited)]
-                list(pool.map(lambda lot, of=topic: self.try_lot(lot, of), lots))
+                is_first = (seed, topic) == (0, "examples")
+                list(pool.map(functools.partial(
+                    self.try_lot, topic=topic, is_first=is_first), lots))
             list(pool.map(self.try_alone, self.left(changes)))
 
 

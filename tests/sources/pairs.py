@@ -79,10 +79,18 @@ class Lots(unittest.TestCase):
     def test_each_has_a_clause_of_its_own(self) -> None:
         one, two, both = change("one"), change("two"), change("both")
         keys = {it.said: it.key for it in (one, two, both) if it.key}
-        cited = {("first", "reads"): frozenset([keys["one"], keys["both"]]),
-                 ("second", "reads"): frozenset([keys["two"], keys["both"]])}
+        cited = {
+            ("first", "reads"): pairs.Citing(frozenset([keys["one"], keys["both"]]), '"mark"'),
+            ("second", "reads"): pairs.Citing(frozenset([keys["two"], keys["both"]]), ""),
+        }
         self.assertEqual(pairs.put_together([one, two, both], cited), [[one, two], [both]])
         self.assertEqual(pairs.put_together([one, change("one")], cited), [[one], [change("one")]])
+
+    def test_clauses_with_the_word_are_tried_first(self) -> None:
+        texts = {"long": 'x "mark" y', "short": '"mark"', "least": '""', "other": '"marks"'}
+        cited = {(name, ""): pairs.Citing(frozenset(), text) for name, text in texts.items()}
+        said = pairs.Change("one", {}, None, "mark")
+        self.assertEqual(pairs.first_tried(said, set(cited), cited), {"short", "long"})
 
     def test_clauses_that_are_not_proved(self) -> None:
         said = ["fn low::examples::marks::first: no proof: expected answers in"
