@@ -2,25 +2,31 @@
 """Changes each definition of a crate in small ways, on a copy, and tells which changes no worked
 example refuses: such a definition is pinned by none, since its body can be changed with it.
 
-usage: build/pairs.py [--jobs N] [--list] [--draw NUMBER] [--edit FILE]... CRATE [WORD..]
+usage: build/pairs.py [--jobs N] [--list] [--draw NUMBER] [--but FILE]... [--edit FILE]...
+                      CRATE [WORD..]
 
-Changes the definitions of the crate, or those changes that have one of these words. --list shows the changes, and
-tries none; --draw tries so many of them, drawn by lot; --edit tries a change by hand, a file with lines `file:`,
-`old:`, `new:` as an edit that must fail, in place of the small ones. --jobs N makes so many checks side by side.
+Changes the definitions of the crate, or those changes that have one of these words. --list shows
+the changes, and tries none; --draw tries so many of them, drawn by lot; --but leaves out those that
+a file tells of: a list, or what an earlier run printed. --edit tries a change by hand, a file with
+lines `file:`, `old:`, `new:` as an edit that must fail, in place of the small ones. --jobs N makes
+so many checks side by side.
 
-A change is one more or one less in a number, another last character in a text, `||` for `&&`, `<` for `<=` and the
-reverse, `false` for `true` and the reverse, or the answers of two cases exchanged. Where the changed word needs an
-import, it gets one.
+A change is one more or one less in a number, another last character in a text, `||` for `&&`, `<`
+for `<=` and the reverse, `false` for `true` and the reverse, or the answers of two cases exchanged.
+Where the changed word needs an import, it gets one.
 
-Several changes are tried in one check of the examples. Each has there an example's clause of its own: one that cites
-what it changes, and nothing that another one changes. Where that clause is refused, so is the change. Changes that
-are left are put together otherwise, then tried alone with the laws, and at last on the whole crate: where that alone
-refuses one, a lemma does. For each is told what refuses it, or that it STANDS. The last line counts them. Needs rt,
-and the crate proved.
+Several changes are tried in one check of examples. Each has there an example's clause of its own:
+one that cites what it changes, and nothing that another one changes. Where that clause is refused,
+so is the change. Changes that are left are put together otherwise, and then so with the laws, whose
+proofs too cite nothing that another one changes. What is left is tried alone with examples and
+laws, and at last on the whole crate: where that alone refuses a change, a lemma does. For each is
+told what refuses it, or that it STANDS. The last line counts them. Needs rt, and the crate proved.
 """
 import argparse
+import collections
 import concurrent.futures
 import enum
+import functools
 import os
 import pathlib
 import random
@@ -34,7 +40,7 @@ sys.dont_write_bytecode = True
 import crates
 import edits
 import wrong_bodies
-from rattle_text import START, Key
+from rattle_text import START, Key, imports
 from statement import Statement, functions_of
 
 # modules of specs/ that hold examples and laws alone
@@ -55,16 +61,26 @@ REJECTED = re.compile(r"^(?:\./)?(specs/\S+?):(\d+):\d+: error: (.*)$")
 # at most so many changes in one check
 MOST = 12
 
-Clause = Tuple[str, str]  # an example's function, and its clause
+Clause = Tuple[str, str]  # an example's function, and its clause; of a law the function alone
+Cited = Dict[Clause, "Citing"]
 Lines = Dict[Tuple[str, int], str]  # what stands in place of a line of a file
 
 
 class Change(NamedTuple):
-    """What is said otherwise, in which lines, of which definition."""
+    """What is said otherwise, in which lines, of which definition, and the text in place of which
+    another one stands, if it is a text."""
 
     said: str
     lines: Lines
     key: Optional[Key]
+    word: str = ""
+
+
+class Citing(NamedTuple):
+    """What a clause cites, directly or through others, and the clause itself."""
+
+    keys: FrozenSet[Key]
+    text: str
 
 
 class End(enum.Enum):
@@ -102,8 +118,8 @@ def can_be_exchanged(this: "re.Match[str]", following: "re.Match[str]") -> bool:
 
 
 def is_changed(line: str, numbered: Sequence[str]) -> bool:
-    """Whether a line of a definition says what can be said otherwise. Numbers of faults and their names are held
-    to docs/formats.md by tests/documents/numbers.sh."""
+    """Whether a line of a definition says what can be said otherwise. Numbers of faults and their
+    names are held to docs/formats.md by tests/documents/numbers.sh."""
     if any(line.startswith((f"{it}_number ", f"{it}_name ")) for it in numbered):
         return False
     if re.match(r"--|(pub )?(use|mod|module|infix)|\s*--|.* : .*Type|\s*→ .*Type \d$", line):
@@ -128,7 +144,8 @@ def changes_of(crate: str, file: str) -> Iterator[Change]:
         for found in WORD.finditer(code):
             for begin, end, other in otherwise(found):
                 new = code[:begin] + other + code[end:]
-                yield Change(f"{module}: {new.strip()}  ({code[begin:end]})", {(file, at): new}, key)
+                said = f"{module}: {new.strip()}  ({code[begin:end]})"
+                yield Change(said, {(file, at): new}, key, found[2] or "")
         this, following = CASE.match(line), CASE.match(lines[at + 1] if at + 1 < len(lines) else "")
         if this and following and can_be_exchanged(this, following):
             swapped = [f"{it[1]}{it[2] or ''} = {of[3]}"
@@ -140,12 +157,24 @@ def changes_of(crate: str, file: str) -> Iterator[Change]:
 def change_by_hand(path: pathlib.Path, crate: str) -> Change:
     """The change that a file of an edit holds."""
     edit = wrong_bodies.edit_of(path, crates.TOP / "crates" / crate)
-    before = {it: (crates.TOP / "crates" / crate / it).read_text(encoding="utf-8") for it in edit.lines}
+    folder = crates.TOP / "crates" / crate
+    before = {it: (folder / it).read_text(encoding="utf-8") for it in edit.lines}
     lines: Lines = {}
     for file, text in wrong_bodies.with_edits(before, [edit]).items():
         old, new = before[file].split("\n"), text.split("\n")
         lines.update({(file, at): it for at, it in enumerate(new) if old[at] != it})
     return Change(path.name, lines, None)
+
+
+def without_told(changes: Sequence[Change], told: Sequence[str]) -> List[Change]:
+    """The changes that these lines don't tell of. Those that are said alike are left out where each
+    of them is told."""
+    count = collections.Counter(it.said for it in changes)
+    return [
+        change for change in changes
+        if sum(it == change.said or it.startswith(change.said + ": ") for it in told)
+        < count[change.said]
+    ]
 
 
 def with_imports(text: str) -> str:
@@ -160,28 +189,58 @@ def with_imports(text: str) -> str:
     return text
 
 
-# ---- what examples cite
+# ---- what examples and laws cite
 
 
-def cited_by_examples(crate: str) -> Dict[Clause, FrozenSet[Key]]:
-    """The definitions of this crate that each clause of its examples cites, directly or through others."""
+def cited_by(crate: str, topic: str) -> Cited:
+    """The definitions of this crate that each clause of its examples, or each of its laws and what
+    proves that, cites, directly or through others."""
     facts, found = Statement(), {}
-    for path in sorted(pathlib.Path(f"crates/{crate}/src").rglob("example*/*.rt")):
+    source = pathlib.Path(f"crates/{crate}/src")
+    for path in sorted([*source.glob(f"{topic}.rt"), *source.glob(f"{topic}/**/*.rt")]):
         for call in functions_of(str(path), lambda *_: True):
-            for name, text in call.clauses:
-                cited = facts.closure(facts.roots([(name, text)], call.scope))
-                found[call.name.split("::")[-1], name] = frozenset(
-                    it for it in cited if it.crate == crate)
+            name = call.name.split("::")[-1]
+            if topic == "laws":
+                proved = {it for it in map(facts.found, names_of_proof(crate, name, facts)) if it}
+                clauses = [("", call.clauses, proved)]
+            else:
+                clauses = [(it[0], [it], set()) for it in call.clauses]
+            for clause, said, proved in clauses:
+                closure = facts.closure(facts.roots(said, call.scope) | proved)
+                keys = frozenset(it for it in closure if it.crate == crate)
+                found[name, clause] = Citing(keys, " ".join(text for _, text in said))
     return found
 
 
-def put_together(changes: Sequence[Change], cited: Dict[Clause, FrozenSet[Key]]) -> List[List[Change]]:
-    """Changes in lots, in each of which every one has a clause of its own. Those that no example cites are each
-    alone."""
+def names_of_proof(crate: str, law: str, facts: Statement) -> Set[Key]:
+    """What the proof of a law imports of specs/, itself or through other files of proofs/."""
+    todo = sorted(pathlib.Path(f"crates/{crate}/proofs/laws").glob(f"**/{law}/*.antt"))
+    seen: Set[pathlib.Path] = set()
+    names: Set[Key] = set()
+    while todo:
+        path = todo.pop()
+        if path in seen or not path.is_file():
+            continue
+        seen.add(path)
+        for key in imports(path.read_text(encoding="utf-8"), r"use").values():
+            if key.module.startswith("proofs."):
+                file = pathlib.Path("crates", key.crate, *key.module.split("."))
+                todo.append(file.with_suffix(".antt"))
+            elif key.name:
+                names.add(key)
+            elif key[:2] in facts.modules:
+                names.update(facts.modules[key[:2]].names)
+    return names
+
+
+def put_together(changes: Sequence[Change], cited: Cited) -> List[List[Change]]:
+    """Changes in lots, in each of which every one has a clause of its own. Those that no clause
+    cites are each alone."""
     lots: List[List[Change]] = []
     for change in changes:
         for lot in lots:
-            if len(lot) < MOST and all(own_clauses(it, [*lot, change], cited) for it in [*lot, change]):
+            more = [*lot, change]
+            if len(lot) < MOST and all(own_clauses(it, more, cited) for it in more):
                 lot.append(change)
                 break
         else:
@@ -189,12 +248,23 @@ def put_together(changes: Sequence[Change], cited: Dict[Clause, FrozenSet[Key]])
     return lots
 
 
-def own_clauses(change: Change, lot: Sequence[Change], cited: Dict[Clause, FrozenSet[Key]]) -> Set[Clause]:
-    """The clauses that cite what this change of a lot changes, and nothing that another one does."""
+def own_clauses(change: Change, lot: Sequence[Change], cited: Cited) -> Set[Clause]:
+    """The clauses that cite what this change of a lot changes, and nothing that another one
+    does."""
     others = {it.key for it in lot if it is not change}
     if change.key in others:
         return set()
-    return {it for it, keys in cited.items() if change.key in keys and not others & keys}
+    return {it for it, of in cited.items() if change.key in of.keys and not others & of.keys}
+
+
+def first_tried(change: Change, own: Set[Clause], cited: Cited) -> Set[str]:
+    """The functions of a change's own clauses that are tried first: two with its word, and with
+    little to compute."""
+    size: Dict[str, int] = collections.Counter()
+    for name, clause in own:
+        size[name] += len(cited[name, clause].text)
+    named = {name for name, clause in own if f'"{change.word}"' in cited[name, clause].text}
+    return set(sorted(size, key=lambda name: (name not in named, size[name], name))[:2])
 
 
 # ---- checks
@@ -232,9 +302,12 @@ class Copies:
 
 
 def refused_clauses(said: Sequence[str]) -> Set[Clause]:
-    """The clauses of examples that a check didn't prove."""
+    """The clauses of examples that a check didn't prove, and the functions."""
     found = set()
     for line in said:
+        function = re.match(r"^fn \S*?::(\w+): (?:not proved|no proof)", line)
+        if function:
+            found.add((function[1], ""))
         unproved = UNPROVED.match(line)
         for name in re.findall(r"`returns(?:-clause-)?([^`]*)`", unproved[2]) if unproved else ():
             found.add((unproved[1], name or "ensures") if unproved else ("", ""))
@@ -252,15 +325,16 @@ def rejection(change: Change, said: Sequence[str]) -> str:
 
 def first_refusals(said: Sequence[str]) -> str:
     """The first few names that a failed check gives."""
-    names = [it[1] for line in said for it in [re.match(r"^fn \S*?::(\w+): no(?:t| proof)", line)] if it]
-    names += [it[1] for line in said for it in [re.match(r"^(?:\./)?(proofs/\S+?):.*error", line)] if it]
+    patterns = (r"^fn \S*?::(\w+): no(?:t| proof)", r"^(?:\./)?(proofs/\S+?):.*error")
+    found = [re.match(pattern, line) for pattern in patterns for line in said]
+    names = [it[1] for it in found if it]
     return ", ".join(dict.fromkeys(names[:6])) or said[-1][:200]
 
 
 class Trial:
     """The changes of a crate, and what is told of each."""
 
-    def __init__(self, copies: Copies, cited: Dict[Clause, FrozenSet[Key]]) -> None:
+    def __init__(self, copies: Copies, cited: Dict[str, Cited]) -> None:
         self.copies, self.cited = copies, cited
         self.ends: Dict[int, End] = {}
 
@@ -273,22 +347,28 @@ class Trial:
         """Those of which nothing is told yet."""
         return [it for it in changes if id(it) not in self.ends]
 
-    def try_lot(self, lot: Sequence[Change]) -> None:
-        """Tries a lot in one check of the examples, without what doesn't compile."""
-        said = self.copies.check(lot, ["examples"])
+    def try_lot(self, lot: Sequence[Change], topic: str, is_first: bool) -> None:
+        """Tries a lot in one check of the examples or the laws, at first of few of them, without
+        what doesn't compile."""
+        cited = self.cited[topic]
+        own = {id(it): own_clauses(it, lot, cited) for it in lot}
+        names = {name for it in own.values() for name, _ in it}
+        if is_first:
+            names = {name for it in lot for name in first_tried(it, own[id(it)], cited)}
+        said = self.copies.check(lot, sorted(names))
         hurt = [it for it in lot if rejection(it, said)]
         for change in hurt:
             self.tell(change, End.REJECTED, rejection(change, said))
         if hurt:
             rest = [it for it in lot if it not in hurt]
             if rest:
-                self.try_lot(rest)
+                self.try_lot(rest, topic, is_first)
             return
         failed = refused_clauses(said)
         for change in lot:
-            own = sorted(own_clauses(change, lot, self.cited) & failed)
-            if own:
-                self.tell(change, End.REFUSED, ", ".join(".".join(it) for it in own[:3]))
+            by = sorted(own[id(change)] & failed)
+            if by:
+                self.tell(change, End.REFUSED, ", ".join(".".join(it).rstrip(".") for it in by[:3]))
 
     def try_alone(self, change: Change) -> None:
         """Tries a change by examples and laws, and then on the whole crate."""
@@ -304,24 +384,28 @@ class Trial:
             self.tell(change, End.STANDS)
 
     def run(self, changes: Sequence[Change], jobs: int) -> None:
-        """Tries all, twice in lots, and the rest alone."""
+        """Tries all in lots, twice with examples and twice with laws, and the rest alone."""
         with concurrent.futures.ThreadPoolExecutor(jobs) as pool:
-            for seed in (1, 2):
-                mixed = random.Random(seed).sample(self.left(changes), len(self.left(changes)))
-                lots = [it for it in put_together(mixed, self.cited)
-                        if own_clauses(it[0], it, self.cited)]
-                list(pool.map(self.try_lot, lots))
+            for seed, topic in enumerate(("examples", "examples", "laws", "laws")):
+                left, cited = self.left(changes), self.cited[topic]
+                mixed = random.Random(seed).sample(left, len(left))
+                lots = [it for it in put_together(mixed, cited) if own_clauses(it[0], it, cited)]
+                is_first = (seed, topic) == (0, "examples")
+                list(pool.map(functools.partial(
+                    self.try_lot, topic=topic, is_first=is_first), lots))
             list(pool.map(self.try_alone, self.left(changes)))
 
 
 def main(words: Optional[List[str]] = None) -> int:
     """Does what the words ask for."""
-    parser = argparse.ArgumentParser(description="Changes definitions, and tells what refuses that.")
+    parser = argparse.ArgumentParser(
+        description="Changes definitions, and tells what refuses that.")
     parser.add_argument("crate", metavar="CRATE")
     parser.add_argument("words", nargs="*", metavar="WORD")
     parser.add_argument("--jobs", type=int, default=1, metavar="N")
     parser.add_argument("--list", action="store_true")
     parser.add_argument("--draw", type=int, default=0, metavar="NUMBER")
+    parser.add_argument("--but", action="append", default=[], type=pathlib.Path, metavar="FILE")
     parser.add_argument("--edit", action="append", default=[], type=pathlib.Path, metavar="FILE")
     asked = parser.parse_args(words)
     folder = pathlib.Path("crates", asked.crate, "specs")
@@ -330,13 +414,16 @@ def main(words: Optional[List[str]] = None) -> int:
         change for name in names for change in changes_of(asked.crate, f"specs/{name}")
         if not asked.words or any(word in change.said for word in asked.words)
     ]
+    told = [line for path in asked.but for line in path.read_text(encoding="utf-8").split("\n")]
+    changes = without_told(changes, told)
     if asked.draw:
         changes = random.Random(asked.crate).sample(changes, min(asked.draw, len(changes)))
     if asked.list:
         print("\n".join(it.said for it in changes))
         return 0
+    cited = {it: cited_by(asked.crate, it) for it in ("examples", "laws")}
     with tempfile.TemporaryDirectory(prefix="pairs-") as place:
-        trial = Trial(Copies(asked.crate, pathlib.Path(place), asked.jobs), cited_by_examples(asked.crate))
+        trial = Trial(Copies(asked.crate, pathlib.Path(place), asked.jobs), cited)
         trial.run(changes, asked.jobs)
     ends = list(trial.ends.values())
     print(f"{ends.count(End.REFUSED)} refused, {ends.count(End.BY_A_LEMMA)} by a lemma alone,"

@@ -1,6 +1,6 @@
 #!/usr/bin/env python3
-"""Tries build/pairs.py on texts: what is said otherwise, what is imported for it, and which changes share
-a check.
+"""Tries build/pairs.py on texts: what is said otherwise, what is imported for it, and which changes
+share a check.
 usage: tests/sources/pairs.py
 """
 import pathlib
@@ -61,6 +61,12 @@ class Changes(unittest.TestCase):
             "Bytes: case_of false = 6  (7)",
         ])
 
+    def test_those_that_a_file_tells_of_are_left_out(self) -> None:
+        every = [change("one"), change("two"), change("two")]
+        told = ["one: first.reads", "two: STANDS", "other"]
+        self.assertEqual(pairs.without_told(every, told), every[1:])
+        self.assertEqual(pairs.without_told(every, [*told, "two"]), [])
+
     def test_other_words_are_imported(self) -> None:
         changed = SPECS.replace('"/" && true', '"/" || true')
         self.assertIn("◌&&◌, ◌||◌, true", pairs.with_imports(changed))
@@ -73,16 +79,25 @@ class Lots(unittest.TestCase):
     def test_each_has_a_clause_of_its_own(self) -> None:
         one, two, both = change("one"), change("two"), change("both")
         keys = {it.said: it.key for it in (one, two, both) if it.key}
-        cited = {("first", "reads"): frozenset([keys["one"], keys["both"]]),
-                 ("second", "reads"): frozenset([keys["two"], keys["both"]])}
+        cited = {
+            ("first", "reads"): pairs.Citing(frozenset([keys["one"], keys["both"]]), '"mark"'),
+            ("second", "reads"): pairs.Citing(frozenset([keys["two"], keys["both"]]), ""),
+        }
         self.assertEqual(pairs.put_together([one, two, both], cited), [[one, two], [both]])
         self.assertEqual(pairs.put_together([one, change("one")], cited), [[one], [change("one")]])
 
+    def test_clauses_with_the_word_are_tried_first(self) -> None:
+        texts = {"long": 'x "mark" y', "short": '"mark"', "least": '""', "other": '"marks"'}
+        cited = {(name, ""): pairs.Citing(frozenset(), text) for name, text in texts.items()}
+        said = pairs.Change("one", {}, None, "mark")
+        self.assertEqual(pairs.first_tried(said, set(cited), cited), {"short", "long"})
+
     def test_clauses_that_are_not_proved(self) -> None:
-        said = ["fn low::examples::marks::first: no proof: expected answers in ./proofs/Answers.antt;"
-                " `search` did not prove `returns-clause-reads`, `returns`",
+        said = ["fn low::examples::marks::first: no proof: expected answers in"
+                " ./proofs/Answers.antt; `search` did not prove `returns-clause-reads`, `returns`",
                 "fn low::examples::marks::second: proved"]
-        self.assertEqual(pairs.refused_clauses(said), {("first", "reads"), ("first", "ensures")})
+        wanted = {("first", name) for name in ("reads", "ensures", "")}
+        self.assertEqual(pairs.refused_clauses(said), wanted)
 
     def test_a_line_that_does_not_compile(self) -> None:
         said = ["./specs/Bytes.antt:6:3: error: `nat_le` is not in scope"]

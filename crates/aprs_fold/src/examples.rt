@@ -8,3 +8,4 @@ pub(crate) mod news;
 pub(crate) mod parts;
 pub(crate) mod ranges;
 pub(crate) mod read_at;
+pub(crate) mod steps;

@@ -1,7 +1,9 @@
 -- Copies and answers that the worked examples are about.
 use Rattle.std.specs.Prelude.{ℕ, Bool, true, false, List, Option, None, Some, codes}
 use Rattle.aprs_transmissions.specs.Examples.{n0call}
+use Rattle.aprs_summary.specs.Examples.{lent}
 use Rattle.aprs_lists.specs.Answers.{AskedAnswer, Reply}
+use Rattle.aprs_lists.specs.declared.net.answers.Answer.{Answer}
 use Rattle.aprs_lists.specs.Copies.{Copy}
 use Rattle.aprs_summary.specs.Messages.{Message}
 use Rattle.aprs_summary.specs.declared.lists.message.MessageState.TheVariants.{Unnumbered, Unanswered, Acknowledged, Rejected}
@@ -83,6 +85,19 @@ reply_at moment = answer_at true false moment
 abbrev pub answer_by : ℕ → List ℕ → ℕ → Reply
 answer_by ssid number moment = record {
   asked = asked 7 ssid number false;
+  moment = moment;
+  is_rejection = false;
+}
+
+-- The acknowledgement of a number by N0CALL-8, as the code has it.
+abbrev pub coded_ack : List ℕ → ℕ → Answer
+coded_ack number moment = record {
+  question = record {
+    source = n0call 7;
+    answerer = n0call 8;
+    number = lent number;
+    is_reply = false;
+  };
   moment = moment;
   is_rejection = false;
 }

@@ -3,6 +3,7 @@
 mod answers;
 mod classes;
 mod columns;
+mod listing;
 mod net;
 mod orders;
 mod tables;

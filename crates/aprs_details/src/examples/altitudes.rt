@@ -1,9 +1,10 @@
 //! Worked examples of altitudes, and near misses.
-ghost use Rattle.std.specs.Prelude.{codes, Some, None, pos, neg_ℤ, ◌≡◌, ◌∷◌, []};
+ghost use Rattle.std.specs.Prelude.{codes, Some, None, true, false, pos, neg_ℤ, ℕ, List, ◌≡◌, ◌∷◌, []};
 ghost use Rattle.aprs_details.specs.Altitude.{feet_of, altitude_of_feet};
 ghost use Rattle.aprs_details.specs.Details.{mic_e_altitude_of, is_radio_mark};
 ghost use Rattle.aprs_details.specs.Examples.{Gives, Misses, of_car, moves, bytes_where};
-ghost use Rattle.aprs_details.specs.GgaAltitude.{feet_of_cs, feet_of_cst};
+ghost use Rattle.aprs_details.specs.GgaAltitude.{feet_of_cs, feet_of_cst, has_powers, rounded};
+ghost use Rattle.aprs_details.specs.GgaAltitude.{is_settled, is_settled_by, are_settled};
 
 /// The altitude of a number is rounded to the nearest foot.
 pub fn powers_are_rounded()
@@ -110,4 +111,58 @@ pub fn mic_e_comments_have_altitudes()
         codes "\"4T" ∷ [])  -- cut off
     }
     ensures marks { bytes_where is_radio_mark ≡ codes "'>]`" }
+{}
+
+/// A table has the powers of a fraction, each rounded down: here a million times those of 1.002.
+pub fn tables_have_each_power()
+    ensures powers { Gives (has_powers 1000000 1 1002 1000) (
+        ([], true) ∷  -- nothing
+        (1000000 ∷ 1002000 ∷ 1004004 ∷ 1006012 ∷ [], true) ∷  -- the last one is 1006012.008
+        (1000000 ∷ 1002000 ∷ 1004004 ∷ 1006013 ∷ [], false) ∷  -- rounded up
+        (1000000 ∷ 1002000 ∷ 1004004 ∷ 1006011 ∷ [], false) ∷  -- one less
+        (999999 ∷ 1002000 ∷ [], false) ∷  -- another first one
+        (999999 ∷ [], false) ∷  -- one less
+        (1000000 ∷ [], true) ∷  -- the fraction itself
+        (1000001 ∷ [], false) ∷ [])  -- one more
+    }
+    ensures begins { Gives (has_powers 7 2 1 1) (
+        (3 ∷ 3 ∷ [], true) ∷  -- 3.5, rounded down
+        (4 ∷ 3 ∷ [], false) ∷ [])  -- up
+    }
+{}
+
+/// So many parts, of which 2^64 make 1, are rounded to the nearest; the half goes up.
+pub fn parts_are_rounded()
+    ensures reads { Gives rounded (
+        (0, 0) ∷  -- nought
+        (9223372036854775807, 0) ∷  -- under half
+        (9223372036854775808, 1) ∷  -- half
+        (18446744073709551616, 1) ∷  -- one
+        (27670116110564327423, 1) ∷  -- under one and a half
+        (27670116110564327424, 2) ∷ [])  -- one and a half
+    }
+{}
+
+/// A product is settled below 2^95, where what was cut off of its powers doesn't change what it is
+/// rounded to. So are those of a table and of two where each is.
+pub fn products_are_settled()
+    ensures products { Gives (λ (x : ℕ × ℕ). is_settled x.0 x.1) (
+        ((0, 0), true) ∷  -- nought
+        ((1, 4611686018427387903), true) ∷  -- under half with what was cut off
+        ((1, 4611686018427387904), false) ∷  -- past half with it
+        ((220608829025537, 179567070964991), true) ∷  -- 2^95 - 1
+        ((281474976710656, 140737488355328), false) ∷ [])  -- 2^95
+    }
+    ensures table { Gives (is_settled_by 1) (
+        ([], true) ∷  -- nothing
+        (0 ∷ 1 ∷ [], true) ∷  -- each
+        (0 ∷ 9223372036854775806 ∷ [], false) ∷  -- the last one isn't
+        (9223372036854775806 ∷ 0 ∷ [], false) ∷ [])  -- the first one isn't
+    }
+    ensures tables { Gives (λ (x : List ℕ × List ℕ). are_settled x.0 x.1) (
+        (([], 9223372036854775806 ∷ []), true) ∷  -- nothing
+        ((0 ∷ 1 ∷ [], 0 ∷ 1 ∷ []), true) ∷  -- each
+        ((0 ∷ 1 ∷ [], 9223372036854775806 ∷ []), false) ∷  -- the last one isn't
+        ((1 ∷ 0 ∷ [], 9223372036854775806 ∷ []), false) ∷ [])  -- the first one isn't
+    }
 {}

@@ -1,6 +1,6 @@
 //! Worked examples of numbers with decimals, and near misses.
 ghost use Rattle.std.specs.Prelude.{pos, codes, neg_ℤ, ℕ, ◌∷◌, []};
-ghost use Rattle.aprs_details.specs.Decimal.{decimal_degrees_text, hundredths_text, metres_text, nearest};
+ghost use Rattle.aprs_details.specs.Decimal.{decimal_degrees_text, hundredths_text, metres_text, nearest, IsNearest};
 ghost use Rattle.aprs_details.specs.Examples.{Gives, parts};
 
 /// Angles have seven decimals, to the nearest, and the sign of their number; what is rounded to 0
@@ -63,4 +63,16 @@ pub fn halves_are_rounded_up()
         ((5, 9), 1) ∷  -- over half
         ((7, 1), 7) ∷ [])  -- whole
     }
+{}
+
+/// The nearest whole number is at most half above, and less than half below.
+pub fn nearest_numbers_are_within_half()
+    ensures whole { IsNearest 7 1 7 }
+    ensures half { IsNearest 3 2 2 }
+    ensures just_under { IsNearest 13 9 1 }
+    ensures just_over { IsNearest 14 9 2 }
+    ensures misses_half { IsNearest 3 2 1 → ⊥ }
+    ensures misses_under { IsNearest 13 9 2 → ⊥ }
+    ensures misses_over { IsNearest 14 9 1 → ⊥ }
+    ensures misses_nought { IsNearest 4 9 1 → ⊥ }
 {}

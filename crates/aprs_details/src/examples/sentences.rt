@@ -107,6 +107,7 @@ pub fn courses_are_rounded()
         (codes "0", Some 360) ∷  -- likewise
         (codes "0.4", Some 360) ∷  -- likewise
         (codes "0.5", Some 1) ∷  -- up
+        (codes "1.499999", Some 1) ∷  -- just under a half
         (codes "1", Some 1) ∷ [])  -- no point
     }
     ensures misses { Misses sent_course (

@@ -1,10 +1,12 @@
 //! Worked examples of which answer decides on a run of a message, and near misses.
-ghost use Rattle.std.specs.Prelude.{◌≡◌, [], ◌∷◌, None, Some, codes};
+ghost use Rattle.std.specs.Prelude.{◌≡◌, [], ◌∷◌, None, Some, codes, false, true};
 ghost use Rattle.aprs_summary.specs.declared.lists.message.MessageState.TheVariants.{Unanswered, Acknowledged, Rejected};
 ghost use Rattle.aprs_summary.specs.declared.lists.reply_ack.ReplyAck.TheVariants.{NotAwaited, Awaited, Heard};
+ghost use Rattle.aprs_lists.specs.Chosen.{chosen, is_early, is_timely};
 ghost use Rattle.aprs_lists.specs.Examples.{message_to};
-ghost use Rattle.aprs_lists.specs.NetExamples.{ack_at, answer_by, rej_at, reply_at, run_of, sent};
-ghost use Rattle.aprs_lists.specs.Told.{told_found};
+ghost use Rattle.aprs_lists.specs.NetExamples.{ack_at, answer_by, coded_ack, rej_at, reply_at, run_of, sent};
+ghost use Rattle.aprs_lists.specs.Runs.{Sent};
+ghost use Rattle.aprs_lists.specs.Told.{AreTold, Told, told_found};
 
 /// Answers count from the first moment less the gap on, and before the next run begins.
 pub fn answers_count_in_the_time_of_a_run()
@@ -56,4 +58,32 @@ pub fn answers_have_two_forms()
         (sent 100 200 None)).settled ≡ Some 110 }
     ensures earlier_rej { (told_found 30 (rej_at 110 ∷ reply_at 120 ∷ [])
         (sent 100 200 None)).outcome ≡ Rejected }
+{}
+
+/// Among answers in order the first that isn't early is chosen, if it is for the message, and in
+/// time.
+pub fn answers_are_chosen()
+    ensures early { is_early (coded_ack (codes "1") 100) (coded_ack (codes "1") 99) ≡ true }
+    ensures misses_early { is_early (coded_ack (codes "1") 100) (coded_ack (codes "1") 100)
+        ≡ false }
+    ensures timely { is_timely (coded_ack (codes "1") 100) (Some 200) (coded_ack (codes "1") 199)
+        ≡ true }
+    ensures misses_end { is_timely (coded_ack (codes "1") 100) (Some 200)
+        (coded_ack (codes "1") 200) ≡ false }
+    ensures misses_number { is_timely (coded_ack (codes "1") 100) (Some 200)
+        (coded_ack (codes "2") 199) ≡ false }
+    ensures without_end { is_timely (coded_ack (codes "1") 100) None (coded_ack (codes "1") 999)
+        ≡ true }
+    ensures first { chosen (coded_ack (codes "1") 100) None (coded_ack (codes "1") 101 ∷ [])
+        ≡ Some (coded_ack (codes "1") 101) }
+    ensures misses_later { chosen (coded_ack (codes "1") 100) None
+        (coded_ack (codes "2") 101 ∷ coded_ack (codes "1") 102 ∷ []) ≡ None }
+    ensures none { chosen (coded_ack (codes "1") 100) None [] ≡ None }
+{}
+
+/// There is a line for each run, and no other.
+pub fn runs_have_one_line_each()
+    ensures none { AreTold 30 [] [] [] }
+    ensures misses_run { (t : Told) → AreTold 30 [] [] (t ∷ []) → ⊥ }
+    ensures misses_line { (r : Sent) → AreTold 30 [] (r ∷ []) [] → ⊥ }
 {}

@@ -12,7 +12,7 @@ ghost use Rattle.aprs_transmissions.specs.Key.{key_of};
 ghost use Rattle.aprs_table.specs.Cells.{stamp_field};
 ghost use Rattle.aprs_summary.specs.declared.lists.message.MessageState.TheVariants.{Unnumbered, Unanswered, Acknowledged, Rejected};
 ghost use Rattle.aprs_summary.specs.declared.lists.reply_ack.ReplyAck.TheVariants.{NotAwaited, Awaited, Heard};
-ghost use Rattle.aprs_lists.specs.Activity.{frames_passed, heard_last, latest, passes_on};
+ghost use Rattle.aprs_lists.specs.Activity.{frames_passed, heard_kept, heard_last, latest, passed_kept, passes_on, with_row};
 ghost use Rattle.aprs_lists.specs.Examples.{ack_at, active_rows, heard_at, row_by, message_to, rej_at, reply_at, sent_as, text_to};
 ghost use Rattle.aprs_lists.specs.Lines.{tabbed_line};
 ghost use Rattle.aprs_lists.specs.Stations.{no_position, no_status, position_in, status_in};
@@ -127,4 +127,18 @@ pub fn stations_pass_on_frames()
     ensures misses_colon { passes_on (row_by 8 50 (codes "}N0CALL-9>APRS")) ≡ false }
     ensures misses_arrow { passes_on (row_by 8 50 (codes "}N0CALL-9:>Hi")) ≡ false }
     ensures misses_brace { passes_on (row_by 8 50 (codes ">N0CALL-9>APRS:>Hi")) ≡ false }
+{}
+
+/// What is kept of a station is when it was heard last, and how many frames it passed on.
+pub fn activities_are_kept()
+    ensures heard { heard_kept (Some (record { heard = 5; passed = 2 })) ≡ Some 5 }
+    ensures never_heard { heard_kept None ≡ None }
+    ensures passed { passed_kept (Some (record { heard = 5; passed = 2 })) ≡ 2 }
+    ensures never_passed { passed_kept None ≡ 0 }
+    ensures first { with_row None 5 false ≡ record { heard = 5; passed = 0 } }
+    ensures first_that_passes { with_row None 5 true ≡ record { heard = 5; passed = 1 } }
+    ensures later { with_row (Some (record { heard = 5; passed = 2 })) 6 true
+        ≡ record { heard = 6; passed = 3 } }
+    ensures earlier { with_row (Some (record { heard = 5; passed = 2 })) 4 false
+        ≡ record { heard = 5; passed = 2 } }
 {}

@@ -5,9 +5,12 @@ ghost use Rattle.aprs_details.specs.declared.precision.Scale.TheVariants.{Tenths
 ghost use Rattle.aprs_mice.specs.declared.mic_e_message.MicEMessage.TheVariants.{EnRoute};
 ghost use Rattle.aprs_table.specs.Cells.{cell_text, tabbed_cell};
 ghost use Rattle.aprs_table.specs.Examples.{lent_bytes};
+ghost use Rattle.aprs_table.specs.FieldText.{field_text, spaced_field};
 ghost use Rattle.aprs_table.specs.Shape.{IsField};
 ghost use Rattle.aprs_table.specs.Table.{header_line};
 ghost use Rattle.aprs_table.specs.declared.cell.Cell.TheVariants as Fields;
+ghost use Rattle.aprs_table.specs.declared.field.Field.TheVariants as Spaced;
+ghost use Rattle.aprs_report.specs.Examples.{stamp_with};
 
 /// A field has neither a tab nor an LF; the bytes beside these may stand in it.
 pub fn fields_have_no_tab()
@@ -60,4 +63,25 @@ pub fn fields_have_texts()
     ensures unknown { cell_text (Fields.Number None) ≡ [] }
     ensures nowhere { cell_text (Fields.Latitude None) ≡ [] }
     ensures after_a_tab { tabbed_cell (Fields.YesNo None) ≡ 9 ∷ [] }
+{}
+
+/// Each field of a line of a history has a text of its own. A name there has no space.
+pub fn spaced_fields_have_texts()
+    ensures plain { field_text (Spaced.Plain (lent_bytes (codes "a b"))) ≡ codes "a b" }
+    ensures word { field_text (Spaced.Word (lent_bytes (codes "a b"))) ≡ codes "a\\x20b" }
+    ensures call { field_text (Spaced.Call (record { characters = codes "WU2Z"; ssid = 1 }))
+        ≡ codes "WU2Z-1" }
+    ensures count { field_text (Spaced.Count 40) ≡ codes "40" }
+    ensures moment { field_text (Spaced.Moment 1714564800000) ≡ codes "2024-05-01T12:00:00.000Z" }
+    ensures stamp { field_text (Spaced.Stamp (Some (stamp_with 122))) ≡ codes "092345z" }
+    ensures no_stamp { field_text (Spaced.Stamp None) ≡ codes "-" }
+    ensures degrees { field_text (Spaced.Degrees (record {
+      numerator = neg_ℤ (pos 432175);
+      denominator = pos 6000;
+    })) ≡ codes "-432175/6000" }
+    ensures ambiguity { field_text (Spaced.Ambiguity here) ≡ codes "0" }
+    ensures compressed { field_text (Spaced.Ambiguity (compressed_place (codes " sT")))
+        ≡ codes "c" }
+    ensures symbol { field_text (Spaced.Symbol car) ≡ codes "/>" }
+    ensures after_a_space { spaced_field (Spaced.Count 40) ≡ codes " 40" }
 {}

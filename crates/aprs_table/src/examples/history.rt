@@ -1,10 +1,13 @@
 //! Worked examples of the lines of a history, and near misses. Their functions do nothing.
 #![tactic(auto, unfolding(crate::proofs::Steps::line_of))]
 
-ghost use Rattle.std.specs.Prelude.{◌≡◌, ◌∷◌, ◌++◌, [], codes};
+ghost use Rattle.std.specs.Prelude.{◌≡◌, ◌∷◌, ◌++◌, [], None, true, false, codes};
+ghost use Rattle.aprs_report.specs.Examples.{leader, leader_item};
+ghost use Rattle.aprs_report.specs.Reading.{ack, raw, status};
 ghost use Rattle.aprs_transmissions.specs.Examples.{early_row, near_row};
 ghost use Rattle.aprs_table.specs.HistoryExamples.{jeep_info, line_once, reported_once, row_to, with_lf};
 ghost use Rattle.aprs_table.specs.History.{history_line};
+ghost use Rattle.aprs_table.specs.HistoryLines.{told_named_line};
 
 /// A line says when its row began and with_lf, by whom it was heard, and who sent the frame of its
 /// greatest reception. It has that frame's digipeaters, a star after each that repeated it.
@@ -88,4 +91,18 @@ pub fn histories_tell_mic_e()
         (codes "20 251 returning - 200564/6000 -672774/6000 0 /j:") → ⊥ }
     ensures misses_raw { history_line (row_to (codes "S32UVT") jeep_info)
         ≡ line_once (codes "raw") (codes "S32UVT:`(_fn\"Oj/") → ⊥ }
+{}
+
+/// Of the reports an object and an item alone have a line by their name.
+pub fn named_reports_have_lines()
+    ensures object { told_named_line (codes "RX1" ∷ []) (leader true)
+        ≡ with_lf (codes "object RX1 LEADER live 092345z 294350/6000 -432175/6000 0 />:") }
+    ensures killed { told_named_line (codes "RX1" ∷ []) (leader false)
+        ≡ with_lf (codes "object RX1 LEADER killed 092345z 294350/6000 -432175/6000 0 />:") }
+    ensures item { told_named_line (codes "RX1" ∷ []) (leader_item true)
+        ≡ with_lf (codes "item RX1 LEADER live - 294350/6000 -432175/6000 0 />:") }
+    ensures misses_status { told_named_line (codes "RX1" ∷ []) (status None (codes "Hi")) ≡ [] }
+    ensures misses_ack { told_named_line (codes "RX1" ∷ []) (ack (codes "LEADER") (codes "1"))
+        ≡ [] }
+    ensures misses_raw { told_named_line (codes "RX1" ∷ []) raw ≡ [] }
 {}
