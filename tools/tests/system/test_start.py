@@ -3,7 +3,7 @@ import os
 import pickle
 import subprocess
 import sys
-from typing import List, NamedTuple, Tuple
+from typing import Any, List, NamedTuple, Tuple
 
 import pytest
 from conftest import environment
@@ -34,22 +34,22 @@ class Known(NamedTuple):
     """As `typing` makes one."""
 
     name: str
-    count: int = 2
+    many: int = 2
 
     @property
     def twice(self) -> int:
-        return 2 * self.count
+        return 2 * self.many
 
 
 def test_named_tuples_are_as_those_of_typing() -> None:
     space = {it: vars(Known)[it] for it in ("__doc__", "twice", "__annotations__")}
-    made = type(records.NamedTuple)(
-        "Known", (records.NamedTuple,), {**space, "__module__": __name__, "count": 2})
+    base: Any = records.NamedTuple
+    made = type(base)("Known", (base,), {**space, "__module__": __name__, "many": 2})
     one, other = made("a"), Known("a")
     assert one == other and repr(one) == repr(other) and one.twice == 4
     assert made._fields == Known._fields and made._field_defaults == Known._field_defaults
     assert made.__doc__ == Known.__doc__ and made.__module__ == Known.__module__
-    assert one._replace(count=3).twice == 6
+    assert one._replace(many=3).twice == 6
     with pytest.raises(TypeError):
         made()
 

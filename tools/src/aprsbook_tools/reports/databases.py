@@ -16,7 +16,7 @@ from aprsbook_tools.system import atomic
 
 if TYPE_CHECKING:
     from typing import (
-        Any, Callable, Dict, Iterable, Iterator, List, Mapping, Optional, Sequence, Tuple, Type)
+        Any, Callable, Dict, Iterable, Iterator, List, Mapping, Sequence, Tuple, Type)
 
     from aprsbook_tools.reports.table import Columns
 

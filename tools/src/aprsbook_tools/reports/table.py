@@ -407,6 +407,11 @@ def is_escaped(lines: str) -> bool:
     return "\\" in lines
 
 
+def maker(name: str, columns_: Sequence[str]) -> Any:
+    """What makes named tuples of these columns."""
+    return collections.namedtuple(name, columns_)
+
+
 def named(make: Any, rows: Iterable[Tuple[Any, ...]]) -> Iterator[Any]:
     """Tuples of a size as named tuples of that size, which costs less than to make those."""
     return map(tuple.__new__, itertools.repeat(make), rows)
@@ -415,7 +420,7 @@ def named(make: Any, rows: Iterable[Tuple[Any, ...]]) -> Iterator[Any]:
 def read(kind: Type[T], lines: Iterable[str], names: Sequence[str] = (),
          wanted: Wanted = ALL) -> Iterator[T]:
     """The table's lines as a kind, or as named tuples of some of its columns."""
-    make: Any = collections.namedtuple(kind.__name__, names) if names else kind
+    make: Any = maker(kind.__name__, names) if names else kind
     names = names or columns_of(kind)
     own = [decimals(None) if it is decimal else
            converter(it, it(""), is_escaped if it is text_of else None)

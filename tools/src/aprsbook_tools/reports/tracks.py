@@ -1,7 +1,6 @@
 """Where stations, objects and items were, of the rows of a book."""
 from __future__ import annotations
 
-import collections
 import itertools
 import operator
 
@@ -24,8 +23,7 @@ COLUMNS = (
     "symbol course speed_knots altitude_m text"
 ).split()
 VALUES = operator.attrgetter(*COLUMNS)
-SORTED: Any = collections.namedtuple("SortedRow", COLUMNS)
-SortedRow: Callable[..., Row] = SORTED
+SortedRow: Callable[..., Row] = table.maker("SortedRow", COLUMNS)
 
 
 class Place(NamedTuple):
