@@ -5,11 +5,14 @@ import argparse
 import os
 import re
 import time
-from typing import Callable, Optional, Sequence
 
+from aprsbook_tools import TYPE_CHECKING
 from aprsbook_tools.errors import ExitStatus, Fault
 from aprsbook_tools.formats import forms, limits, moments
 from aprsbook_tools.formats.forms import form
+
+if TYPE_CHECKING:
+    from typing import Callable, Optional, Sequence
 
 SECONDS = {"s": 1, "m": 60, "h": 3600, "d": 86_400}
 DURATION = form(r"([0-9]{1,9})([smhd]?)", re.ASCII)

@@ -8,12 +8,16 @@ import keyword
 import os
 import re
 from types import ModuleType
-from typing import IO, Any, Iterable, List, NoReturn, Optional, Sequence, Tuple
 
-from aprsbook_tools import stdout
+from aprsbook_tools import TYPE_CHECKING, stdout
 from aprsbook_tools.errors import ExitStatus, Fault
 
+if TYPE_CHECKING:
+    from typing import IO, Any, Iterable, List, NoReturn, Optional, Sequence, Tuple
+
 WIDTH = 79  # columns of help, on terminals that have them
+# its words stay English, as all others here: to look for translations takes half as long as it does
+setattr(argparse, "_", str)
 
 
 def help_width() -> int:

@@ -3,10 +3,12 @@ import gc
 import os
 import signal
 import sys
-from typing import List, NoReturn, Optional, Sequence, Tuple
 
-from aprsbook_tools import VERSION, commands, signals, stderr, stdout
+from aprsbook_tools import TYPE_CHECKING, VERSION, commands, signals, stderr, stdout
 from aprsbook_tools.errors import NO_ROOM, ExitStatus, Fault, words_of
+
+if TYPE_CHECKING:
+    from typing import List, NoReturn, Optional, Sequence, Tuple
 
 HELP = """\
 aprs-net {version}: logs, books and reports of APRS nets, around aprsbook
@@ -40,7 +42,7 @@ class Ended(BaseException):
         self.number = number
 
 
-def end(number: int, _: object) -> NoReturn:
+def end(number: int, _: object) -> "NoReturn":
     raise Ended(number)
 
 
@@ -58,7 +60,7 @@ def write_out(text: str) -> int:
     return ExitStatus.DONE
 
 
-def split(words: Sequence[str]) -> Tuple[List[str], List[str]]:
+def split(words: "Sequence[str]") -> "Tuple[List[str], List[str]]":
     """The options before the command, and the command with what follows."""
     count = 0
     while count < len(words) and words[count].startswith("-"):
@@ -66,7 +68,7 @@ def split(words: Sequence[str]) -> Tuple[List[str], List[str]]:
     return list(words[:count]), list(words[count:])
 
 
-def dispatch(words: Sequence[str]) -> int:
+def dispatch(words: "Sequence[str]") -> int:
     """Does what was typed; the status."""
     before, rest = split(words)
     for word in before:
@@ -96,7 +98,7 @@ def unknown(name: str) -> str:
     return f"no command is called {name}{hint} (see aprs-net help)"
 
 
-def run_command(name: str, words: Sequence[str]) -> int:
+def run_command(name: str, words: "Sequence[str]") -> int:
     """Runs a command, whose module is imported now."""
     from aprsbook_tools import argv
 
@@ -109,7 +111,7 @@ def run_command(name: str, words: Sequence[str]) -> int:
     return status
 
 
-def run(arguments: Optional[Sequence[str]] = None) -> int:
+def run(arguments: "Optional[Sequence[str]]" = None) -> int:
     """Runs what was typed; its status, and in words what went wrong."""
     try:
         return dispatch(sys.argv[1:] if arguments is None else arguments)
@@ -138,7 +140,7 @@ def hold_standard_files() -> None:
             os.open(os.devnull, os.O_RDWR)
 
 
-def main(arguments: Optional[Sequence[str]] = None) -> int:
+def main(arguments: "Optional[Sequence[str]]" = None) -> int:
     """The program: as `run`, and ended by a signal as it has to be."""
     hold_standard_files()
     if sys.version_info < LEAST_PYTHON:
@@ -165,7 +167,7 @@ def main(arguments: Optional[Sequence[str]] = None) -> int:
     return status
 
 
-def kill_self(number: Optional[int]) -> int:
+def kill_self(number: "Optional[int]") -> int:
     """Ends this process by a signal, so that who started it sees that; Windows has no SIGPIPE."""
     if number is None:
         return ExitStatus.OUTPUT

@@ -1,7 +1,11 @@
 """The one exception: what went wrong, in words, and the exit status, as of aprsbook."""
 import enum
 import errno
-from typing import Union
+
+from aprsbook_tools import TYPE_CHECKING
+
+if TYPE_CHECKING:
+    from typing import Union
 
 
 class ExitStatus(enum.IntEnum):
@@ -44,7 +48,7 @@ class Fault(Exception):
 NO_ROOM = (errno.ENOSPC, errno.EDQUOT)
 
 
-def words_of(fault: Union[Fault, OSError]) -> str:
+def words_of(fault: "Union[Fault, OSError]") -> str:
     """What a command says of what ended it. Files without a name are temporary ones."""
     if isinstance(fault, Fault):
         return str(fault)

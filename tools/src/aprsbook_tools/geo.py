@@ -3,8 +3,15 @@
 Degrees are north and east, metres are on a ball of 6,371 km. There is one rule of the date line:
 from one longitude to another it is the shorter way, less than 180 degrees, that counts.
 """
+from __future__ import annotations
+
 import math
-from typing import List, NamedTuple, Sequence, Tuple
+
+from aprsbook_tools import TYPE_CHECKING
+from aprsbook_tools.records import NamedTuple
+
+if TYPE_CHECKING:
+    from typing import List, Sequence, Tuple
 
 EARTH_METRES = 6_371_000.0
 DEGREE_METRES = EARTH_METRES * math.pi / 180

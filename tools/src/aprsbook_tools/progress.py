@@ -2,13 +2,15 @@
 from __future__ import annotations
 
 import sys
-import threading
-from typing import Callable, Iterable, Iterator, Optional, TypeVar
 
+from aprsbook_tools import TYPE_CHECKING
 from aprsbook_tools.stderr import show
-from aprsbook_tools.system.clock import CLOCK
 
-T = TypeVar("T")
+if TYPE_CHECKING:
+    from typing import Callable, Iterable, Iterator, Optional, TypeVar
+
+    T = TypeVar("T")
+
 STEP = 0.2  # seconds between two counts
 
 
@@ -16,14 +18,22 @@ def one(_: object) -> int:
     return 1
 
 
+def is_part() -> bool:
+    """Whether another thread than the main one asks."""
+    import threading  # for a terminal alone, as the clock below
+
+    return threading.current_thread() is not threading.main_thread()
+
+
 def counted(items: Iterable[T], words: str, total: Optional[int] = None,
             size: Callable[[T], int] = one) -> Iterator[T]:
     """The items, with a line that counts them, such as `days: 3 of 20`; an item may be of a size.
     What other threads count is a part of that."""
-    is_part = threading.current_thread() is not threading.main_thread()
-    if is_part or sys.stderr is None or not sys.stderr.isatty():
+    if sys.stderr is None or not sys.stderr.isatty() or is_part():
         yield from items
         return
+    from aprsbook_tools.system.clock import CLOCK
+
     of = f" of {total}" if total is not None else ""
     shown, number = 0.0, 0
     try:

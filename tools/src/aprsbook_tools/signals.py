@@ -1,9 +1,13 @@
 """Signals that ask for the end."""
 import signal
-from typing import Any
+
+from aprsbook_tools import TYPE_CHECKING
+
+if TYPE_CHECKING:
+    from typing import Any
 
 
-def heed(handler: Any, *names: str) -> None:
+def heed(handler: "Any", *names: str) -> None:
     """Takes these signals, but for one that whoever started this has it ignore, as nohup does."""
     for name in names:
         number = getattr(signal, name, None)  # not each is there on Windows

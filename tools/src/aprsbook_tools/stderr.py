@@ -4,9 +4,12 @@ import enum
 import os
 import select
 import sys
-from typing import Set
 
+from aprsbook_tools import TYPE_CHECKING
 from aprsbook_tools.formats.forms import form
+
+if TYPE_CHECKING:
+    from typing import Set
 
 
 class Level(enum.IntEnum):
@@ -19,7 +22,7 @@ class Level(enum.IntEnum):
 
 LEVEL_OF = {"--quiet": Level.QUIET, "--verbose": Level.VERBOSE}
 _level = Level.PLAIN
-_said: Set[str] = set()
+_said: "Set[str]" = set()
 # what moves a terminal's cursor, colours it or turns the writing round
 ORDER = form("[\x00-\x09\x0b-\x1f\x7f-\x9f\u200e\u200f\u2028-\u202e\u2066-\u2069]")
 

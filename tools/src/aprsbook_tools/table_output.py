@@ -4,19 +4,24 @@ from __future__ import annotations
 import argparse
 import os
 import sys
-from typing import Iterable, Iterator, List, Optional, Sequence, Type, TypeVar
 
-from aprsbook_tools import arguments, progress
+from aprsbook_tools import TYPE_CHECKING, arguments, progress
 from aprsbook_tools.books import inputs, merged_inputs
 from aprsbook_tools.formats import moments
-from aprsbook_tools.formats.spreadsheet import Cell, csv_line
+from aprsbook_tools.formats.spreadsheet import csv_line
 from aprsbook_tools.reports import table
 from aprsbook_tools.system import streams
 
+if TYPE_CHECKING:
+    from typing import Iterable, Iterator, List, Optional, Sequence, Type, TypeVar
+
+    from aprsbook_tools.formats.spreadsheet import Cell
+
+    Rows = Iterable[Sequence[Cell]]
+    T = TypeVar("T")
+
 FORMATS = ("text", "tsv", "csv", "json")
 MAPS = ("gpx", "geojson", "kml")  # of reports that have places
-Rows = Iterable[Sequence[Cell]]
-T = TypeVar("T")
 
 
 def add_arguments(

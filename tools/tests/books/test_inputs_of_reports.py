@@ -4,6 +4,7 @@ import gzip
 import lzma
 import os
 import pathlib
+import re
 import subprocess
 import tempfile
 import threading
@@ -11,6 +12,8 @@ from typing import Callable, Dict, List, Set
 
 import pytest
 from conftest import command as aprs_net, environment, tried
+from hypothesis import given
+from hypothesis import strategies as st
 from standing import Programs, at, place
 
 from aprsbook_tools.books import chunks, inputs
@@ -184,3 +187,21 @@ def test_a_full_disk_is_no_fault_of_what_is_unpacked(tmp_path: pathlib.Path) -> 
     with pytest.raises(Fault, match="/dev/full: No space left") as fault:
         inputs.unpack(inputs.look_at(str(tmp_path / "RX1.log.gz")), "/dev/full")
     assert fault.value.status == ExitStatus.OUTPUT
+
+
+KIND = re.compile(r"[^.].*\.(log|book)(?:\.gz|\.xz|\.bz2|\.zst)?", re.DOTALL)
+PARTS = st.sampled_from(["a", ".", ".log", ".book", ".gz", ".xz", ".zst", ".LOG", "-", "\n", "2024"])
+
+
+@given(st.lists(PARTS, max_size=5).map("".join))
+def test_the_kind_of_a_name(name: str) -> None:
+    found = KIND.fullmatch(name)
+    assert inputs.kind_of(f"logs.log/{name}") == (f".{found[1]}" if found else "")
+
+
+@pytest.mark.parametrize(("text", "wanted"), [
+    ("2024-06-21", True), ("1999-12-31", True), ("2100-01-01", False), ("2024-6-21", False),
+    ("2024-06-21T", False), ("2024/06/21", False), ("\u0662024-06-21", False), ("", False)])
+def test_what_is_a_day(text: str, wanted: bool) -> None:
+    assert inputs.is_day(text) == wanted
+    assert inputs.day_said(f"/logs/{text}/RX1.log") == (text[:10] if wanted or "T" in text else "")

@@ -158,3 +158,9 @@ def test_a_stick_that_is_taken_away(tmp_path: pathlib.Path, monkeypatch: pytest.
     assert said == [f"{stick}: the disk isn't mounted any more: frames that are held: 1, lost: 0"]
     assert lines_after(str(stick)) == 5
     assert logs.end() == 0
+
+
+@given(MOMENTS)
+def test_moments_that_a_program_has_shown(moment: int) -> None:
+    text = moments.text_of(moment)
+    assert moments.shown(text) == moments.milliseconds(text) == moment

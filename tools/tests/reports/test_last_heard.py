@@ -2,6 +2,7 @@
 import collections
 import itertools
 import pathlib
+import re
 from typing import Dict, List, Tuple
 
 import pytest
@@ -225,3 +226,19 @@ def test_the_roster_is_no_output(programs: Programs, tmp_path: pathlib.Path) -> 
     (tmp_path / "names").write_text("Q1A\n")
     programs.run("roster", "-o", "names", "names", "net.log", status=2)
     assert (tmp_path / "names").read_text() == "Q1A\n"
+
+
+@pytest.mark.parametrize(("text", "wanted"), [
+    ("Q1A", True), ("Q1A-7", True), ("q1abcdefg-15", True), ("Q1A-AB", True), ("1", True),
+    ("", False), ("-7", False), ("Q1A-", False), ("Q1A-157", False), ("Q1ABCDEFGH", False),
+    ("Q1A-1-2", False), ("Q1\u00c4", False), ("Q1\u0661", False), ("Q1 A", False), ("Q1A\n", False)])
+def test_what_is_a_call(text: str, wanted: bool) -> None:
+    assert last_heard.is_call(text) == wanted
+
+
+@given(st.binary(max_size=12).map(lambda it: bytes(octet & 1 for octet in it)))
+def test_runs_of_rows(alike: bytes) -> None:
+    """Each row but the last of a run has the text of the next; the last run may go on."""
+    last = alike.rfind(b"\0") + 1
+    wanted = [slice(it.start(), it.end() + 1) for it in re.finditer(b"\1+", alike[:last])]
+    assert [*receiver_clocks.runs_in(alike, last)] == wanted

@@ -84,3 +84,20 @@ def test_columns_of_an_older_program() -> None:
     assert shown(lines, "text", "tone", REST)[2] == ["2", "", ""]
     with pytest.raises(Fault, match="the table of rows has no column text"):
         shown([lines[0].replace("\ttext", "")], "text")
+
+
+def test_decimals() -> None:
+    """Some, all or none of a column; what is none is refused."""
+    convert = table.decimals(None)
+    assert [*convert(["1.5", "", "-0.25"])] == [1.5, None, -0.25]
+    assert [*convert(["49.0003333"] * 2)] == [49.0003333] * 2
+    assert [*convert(["", ""])] == [None, None] and [*convert([])] == []
+    lines = table_text(Row, [place("18:00", "Q1A", 54.5, -3.5)]).replace("54.5", "north")
+    with pytest.raises(Fault, match="the table of rows: .*north"):
+        [*table.read(Row, lines.splitlines())]
+
+
+def test_a_table_without_rows() -> None:
+    assert [*table.read(Row, LINES[:1])] == []
+    with pytest.raises(Fault, match="the table of rows has no column kind"):
+        [*table.read(Row, [])]

@@ -1,16 +1,21 @@
 """Logs and books as files: those below folders, their days, and compressed ones unpacked."""
+from __future__ import annotations
+
 import contextlib
 import io
 import os
 import re
 import stat
-from typing import IO, Dict, Iterable, Iterator, List, NamedTuple, Optional, Sequence, Set, Tuple
 
-from aprsbook_tools import stderr
+from aprsbook_tools import TYPE_CHECKING, stderr
 from aprsbook_tools.errors import ExitStatus, Fault, said
 from aprsbook_tools.formats import book_file
 from aprsbook_tools.formats.forms import form
+from aprsbook_tools.records import NamedTuple
 from aprsbook_tools.system import packing, programs, temporary
+
+if TYPE_CHECKING:
+    from typing import IO, Dict, Iterable, Iterator, List, Optional, Sequence, Set, Tuple
 
 KINDS = (".log", ".book")  # the endings of what isn't packed
 MISNAMED = form(r"[^.].*\.log(?![a-z]).*", re.DOTALL | re.IGNORECASE)
@@ -61,7 +66,8 @@ def is_day(text: str) -> bool:
 def day_said(path: str) -> str:
     """The day that a path says, as 2024-06-21, or nothing."""
     whole = os.path.abspath(path)
-    return (DAY.findall(whole) or [""])[-1] if whole.count("-") > 1 else ""
+    found: List[str] = DAY.findall(whole) if whole.count("-") > 1 else []
+    return found[-1] if found else ""
 
 
 def day_of(path: str) -> str:

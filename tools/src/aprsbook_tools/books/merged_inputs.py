@@ -4,12 +4,14 @@ from __future__ import annotations
 
 import contextlib
 import os
-from typing import IO, ContextManager, Iterator, List, Optional, Sequence
 
-from aprsbook_tools import stderr
+from aprsbook_tools import TYPE_CHECKING, stderr
 from aprsbook_tools.books import inputs
 from aprsbook_tools.errors import Fault
 from aprsbook_tools.system import programs, streams, temporary
+
+if TYPE_CHECKING:
+    from typing import IO, ContextManager, Iterator, List, Optional, Sequence
 
 
 @contextlib.contextmanager

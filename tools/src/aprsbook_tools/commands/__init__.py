@@ -1,8 +1,11 @@
 """The commands. Each is a module of this package with a DESCRIPTION, EXAMPLES (in words, and as
 typed), `add_arguments(parser)` and `run(args) -> int`, which is imported when it runs."""
-from typing import Dict
+from aprsbook_tools import TYPE_CHECKING
 
-GROUPS: Dict[str, Dict[str, str]] = {
+if TYPE_CHECKING:
+    from typing import Dict
+
+GROUPS: "Dict[str, Dict[str, str]]" = {
     "Logs": {
         "log": "write a log of a receiver, for days on end",
         "import": "write a log of what another program has written down",

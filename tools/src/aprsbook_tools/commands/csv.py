@@ -2,13 +2,17 @@
 from __future__ import annotations
 
 import argparse
-from typing import Iterator, List, Sequence
 
-from aprsbook_tools import arguments, table_output
-from aprsbook_tools.formats.spreadsheet import Cell, csv_line
+from aprsbook_tools import TYPE_CHECKING, arguments, table_output
+from aprsbook_tools.formats.spreadsheet import csv_line
 from aprsbook_tools.reports import table, table_files
 from aprsbook_tools.reports.roster import roster_of
 from aprsbook_tools.system import streams
+
+if TYPE_CHECKING:
+    from typing import Iterator, List, Sequence
+
+    from aprsbook_tools.formats.spreadsheet import Cell
 
 KINDS = {word: kind for kind, word in table.WORDS.items()}
 FIELDS = "fields"

@@ -1,15 +1,20 @@
 """The communications log of a net, as the form ICS 309 has it."""
-import argparse
-from typing import Iterable, Iterator, List, Sequence, Tuple
+from __future__ import annotations
 
-from aprsbook_tools import arguments, table_output
+import argparse
+
+from aprsbook_tools import TYPE_CHECKING, arguments, table_output
 from aprsbook_tools.formats import moments
 from aprsbook_tools.formats.forms import form
-from aprsbook_tools.formats.spreadsheet import Cell
 from aprsbook_tools.reports.roster import Expected, Roster, call_of, roster_of
 from aprsbook_tools.reports.table import Message
 from aprsbook_tools.serving import desk_options
 from aprsbook_tools.serving.entries import Journals
+
+if TYPE_CHECKING:
+    from typing import Iterable, Iterator, List, Sequence, Tuple
+
+    from aprsbook_tools.formats.spreadsheet import Cell
 
 HEAD = ["time", "from", "number", "to", "message", "state"]
 NAMES = ["from_name", "to_name"]

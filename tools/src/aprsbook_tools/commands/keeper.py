@@ -1,19 +1,27 @@
 """For the keeper of a digipeater: heard direct, hops, hours, who repeats whom, and who is late."""
+from __future__ import annotations
+
 import argparse
 import json
 import re
-from typing import Callable, Dict, Iterator, List, NamedTuple, Sequence, Tuple
 
-from aprsbook_tools import arguments, table_output
+from aprsbook_tools import TYPE_CHECKING, arguments, table_output
 from aprsbook_tools.books import merged_inputs
 from aprsbook_tools.books.receptions import Reception, receptions_of
 from aprsbook_tools.errors import ExitStatus, Fault
 from aprsbook_tools.formats import book_file, log_file, moments
 from aprsbook_tools.formats.forms import form
-from aprsbook_tools.formats.spreadsheet import Cell
 from aprsbook_tools.geo import Spot
+from aprsbook_tools.records import NamedTuple
 from aprsbook_tools.reports import digipeater_stats
 from aprsbook_tools.reports.roster import Roster, call_of, roster_of
+
+if TYPE_CHECKING:
+    from typing import Callable, Dict, Iterator, List, Sequence, Tuple
+
+    from aprsbook_tools.formats.spreadsheet import Cell
+
+    Part = Tuple[List[str], Callable[["Asked"], List[List[Cell]]]]
 
 AT = form(rf"(?:({log_file.RECEIVER})=)?(-?[0-9.]+),(-?[0-9.]+)", re.ASCII)
 CALL_AT = form(rf"(?:({log_file.RECEIVER})=)?([A-Za-z0-9-]+)", re.ASCII)
@@ -79,7 +87,6 @@ def farthest(it: Asked) -> List[List[Cell]]:
     ]
 
 
-Part = Tuple[List[str], Callable[[Asked], List[List[Cell]]]]
 PARTS: Dict[str, Part] = {
     "direct": (["receiver", "call", "direct", "frames", "last", "name"], direct),
     "hops": (["receiver", "hops", "frames"], hops),

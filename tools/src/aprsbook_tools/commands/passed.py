@@ -3,18 +3,21 @@ from __future__ import annotations
 
 import argparse
 import re
-from typing import Dict, List, Sequence, Tuple
 
-from aprsbook_tools import arguments, stderr, table_output
+from aprsbook_tools import TYPE_CHECKING, arguments, stderr, table_output
 from aprsbook_tools.errors import ExitStatus, Fault
 from aprsbook_tools.formats import moments
-from aprsbook_tools.formats.spreadsheet import Cell
 from aprsbook_tools.reports.checkpoints import (
     FASTEST, Checkpoint, Visit, all_visits, nearest_to, read_checkpoints, ways_of)
 from aprsbook_tools.reports.roster import Roster, roster_of
 from aprsbook_tools.reports.table import Row
 from aprsbook_tools.reports.tracks import COLUMNS, Thing, things_of
 from aprsbook_tools.system import user_text
+
+if TYPE_CHECKING:
+    from typing import Dict, List, Sequence, Tuple
+
+    from aprsbook_tools.formats.spreadsheet import Cell
 
 FEW = 20  # places that are named
 HEAD = [

@@ -2,14 +2,17 @@
 from __future__ import annotations
 
 import argparse
-from typing import Dict, Iterable, List, Optional
 
-from aprsbook_tools import table_output
+from aprsbook_tools import TYPE_CHECKING, table_output
 from aprsbook_tools.errors import ExitStatus
-from aprsbook_tools.formats.spreadsheet import Cell
 from aprsbook_tools.reports import last_heard
 from aprsbook_tools.reports.last_heard import Heard
 from aprsbook_tools.reports.roster import Expected, base_of, roster_of
+
+if TYPE_CHECKING:
+    from typing import Dict, Iterable, List, Optional
+
+    from aprsbook_tools.formats.spreadsheet import Cell
 
 NEVER = "never"
 HEAD = ["last", "receiver", "call", "transmissions", "heard_as", "name", "group", "passed"]

@@ -5,14 +5,18 @@ import argparse
 import concurrent.futures
 import contextlib
 import itertools
-from typing import IO, Dict, Iterator, Optional
 
-from aprsbook_tools import arguments, table_output
+from aprsbook_tools import TYPE_CHECKING, arguments, table_output
 from aprsbook_tools.books import executors, merged_inputs
 from aprsbook_tools.reports import databases, table
 from aprsbook_tools.reports.roster import roster_of
-from aprsbook_tools.reports.table import Columns, Time
+from aprsbook_tools.reports.table import Time
 from aprsbook_tools.system import atomic, programs, temporary
+
+if TYPE_CHECKING:
+    from typing import IO, Dict, Iterator, Optional
+
+    from aprsbook_tools.reports.table import Columns
 
 DESCRIPTION = """\
 Makes the tables transmissions, messages, stations and things of logs and books, and the views

@@ -1,9 +1,12 @@
 """Addresses of AX.25 frames: made of texts of other programs, and read as far as a log needs."""
 from __future__ import annotations
 
-from typing import List, Optional, Tuple
 
+from aprsbook_tools import TYPE_CHECKING
 from aprsbook_tools.formats.forms import form
+
+if TYPE_CHECKING:
+    from typing import List, Optional, Tuple
 
 CALL = form(r"([A-Z0-9]{1,6})(?:-(0|[1-9]|1[0-5]))?")
 UI = b"\x03\xf0"  # control and PID

@@ -1,9 +1,14 @@
 """Book files: how they begin, their gap, and the receptions that their rows have."""
-from typing import IO, Iterator, NamedTuple, Optional
+from __future__ import annotations
 
+from aprsbook_tools import TYPE_CHECKING
 from aprsbook_tools.errors import Fault
 from aprsbook_tools.formats import forms, limits, moments
 from aprsbook_tools.formats.forms import form
+from aprsbook_tools.records import NamedTuple
+
+if TYPE_CHECKING:
+    from typing import IO, Iterator, Optional
 
 BEGIN = b"APRSBOOK"  # so a book begins, and no line of a log
 # seconds, where nothing says another gap, as in books of an older program

@@ -6,11 +6,15 @@ it away again.
 """
 from __future__ import annotations
 
-from typing import Iterable, List, Sequence, Union
 
+from aprsbook_tools import TYPE_CHECKING
 from aprsbook_tools.formats.forms import form
 
-Cell = Union[str, int, float, None]
+if TYPE_CHECKING:
+    from typing import Iterable, List, Sequence, Union
+
+    Cell = Union[str, int, float, None]
+
 # blanks of all kinds, also those without a width
 BLANKS = r" \u00a0\u00ad\u061c\u115f\u1160\u1680\u180e\u2000-\u200f\u2028-\u202f\u205f-\u206f" \
     r"\u3000\u3164\ufeff\uffa0"

@@ -1,10 +1,15 @@
 """What a net's control wants to be told: who is silent, what isn't answered, who is in distress."""
-from typing import Dict, Iterable, List, NamedTuple, Optional, Sequence
+from __future__ import annotations
 
+from aprsbook_tools import TYPE_CHECKING
 from aprsbook_tools.formats import moments
+from aprsbook_tools.records import NamedTuple
 from aprsbook_tools.reports.last_heard import Heard
 from aprsbook_tools.reports.roster import Roster, base_of
 from aprsbook_tools.reports.table import Message, Row
+
+if TYPE_CHECKING:
+    from typing import Dict, Iterable, List, Optional, Sequence
 
 MINUTE = 60_000  # milliseconds
 EMERGENCY = "emergency"

@@ -4,15 +4,21 @@ A thing goes straight from each place to the next, unless more time lies between
 allowed, or it was killed. A visit begins where that way comes into a checkpoint's circle. For the
 next one, another lap, it has to be twice the circle's radius away in between.
 """
+from __future__ import annotations
+
 import csv
 import re
-from typing import List, NamedTuple, Optional, Sequence, Tuple
 
+from aprsbook_tools import TYPE_CHECKING
 from aprsbook_tools.errors import Fault
 from aprsbook_tools.formats import moments
 from aprsbook_tools.formats.forms import form
 from aprsbook_tools.geo import Chord, Spot, chord, metres_between
+from aprsbook_tools.records import NamedTuple
 from aprsbook_tools.reports.tracks import Place, Thing
+
+if TYPE_CHECKING:
+    from typing import List, Optional, Sequence, Tuple
 
 NUMBER = form(r"[-+]?[0-9]+([.,][0-9]*)?", re.ASCII)
 METRES = form(r"([0-9]+(?:[.,][0-9]*)?) ?(m|km)?", re.ASCII)

@@ -1,17 +1,24 @@
 """A database of SQLite with the tables of a book, in which numbers are numbers."""
+from __future__ import annotations
+
 import contextlib
 import itertools
 import os
 import sqlite3
-from typing import (
-    Any, Callable, Dict, Iterable, Iterator, List, Mapping, NamedTuple, Optional, Sequence, Tuple,
-    Type)
 
+from aprsbook_tools import TYPE_CHECKING
 from aprsbook_tools.errors import ExitStatus, Fault
+from aprsbook_tools.records import NamedTuple
 from aprsbook_tools.reports import table, table_files, tactical
 from aprsbook_tools.reports.roster import Roster
-from aprsbook_tools.reports.table import Columns, Message, Row, Station, Thing
+from aprsbook_tools.reports.table import Message, Row, Station, Thing
 from aprsbook_tools.system import atomic
+
+if TYPE_CHECKING:
+    from typing import (
+        Any, Callable, Dict, Iterable, Iterator, List, Mapping, Sequence, Tuple, Type)
+
+    from aprsbook_tools.reports.table import Columns
 
 # the table's name for each kind of the book's table
 TABLES: Dict[str, Type[Any]] = {
@@ -56,11 +63,11 @@ INDICES = [
 ]
 
 
-def sql_type(hint: Any) -> str:
+def sql_type(hint: str) -> str:
     """The column type of a field: a number where it is one, and otherwise text."""
-    if hint == Optional[int]:
+    if hint == "Optional[int]":
         return "integer"
-    return "real" if hint == Optional[float] else "text"
+    return "real" if hint == "Optional[float]" else "text"
 
 
 def columns_of(kind: Type[Any]) -> Dict[str, str]:

@@ -1,15 +1,21 @@
 """What the keeper of a digipeater asks: who is heard direct, hops, hours, who repeats whom, and who
 repeats late."""
+from __future__ import annotations
+
 import re
 from collections import Counter, defaultdict
-from typing import Dict, Iterable, List, NamedTuple, Optional, Sequence, Tuple
 
+from aprsbook_tools import TYPE_CHECKING
 from aprsbook_tools.books.receptions import Reception
 from aprsbook_tools.formats.forms import form
 from aprsbook_tools.geo import Spot, bearing, metres_between
+from aprsbook_tools.records import NamedTuple
 from aprsbook_tools.reports.clock_offsets import median, transmission
 from aprsbook_tools.reports.table import Row
 from aprsbook_tools.reports.tracks import place_of
+
+if TYPE_CHECKING:
+    from typing import Dict, Iterable, List, Optional, Sequence, Tuple
 
 # what stands for any digipeater, and names none
 ALIAS = form(r"(WIDE|TRACE)[0-9]?(-[0-9]+)?|RELAY|ECHO|GATE", re.ASCII)

@@ -3,16 +3,22 @@
 The table `stations`, which is shorter, doesn't say by whom each was heard last, who was heard
 through a gate alone, and of which rows it is known that a receiver's clock is wrong.
 """
+from __future__ import annotations
+
 import argparse
 import collections
-from typing import (
-    DefaultDict, Dict, Iterable, Iterator, List, NamedTuple, Optional, Sequence, Tuple)
 
-from aprsbook_tools import arguments, progress, table_output
+from aprsbook_tools import TYPE_CHECKING, arguments, progress, table_output
 from aprsbook_tools.books import merged_inputs
 from aprsbook_tools.formats import book_file
+from aprsbook_tools.records import NamedTuple
 from aprsbook_tools.reports import receiver_clocks, table
-from aprsbook_tools.reports.table import REST, Columns, Row, Time, text_of
+from aprsbook_tools.reports.table import REST, Row, Time, text_of
+
+if TYPE_CHECKING:
+    from typing import DefaultDict, Dict, Iterable, Iterator, List, Optional, Sequence, Tuple
+
+    from aprsbook_tools.reports.table import Columns
 
 # those that are read
 COLUMNS = ("first", "last", "receivers", "receiver", "source", "destination", "gate", REST)

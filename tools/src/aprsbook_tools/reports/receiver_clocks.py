@@ -4,16 +4,23 @@ What stands in several rows of one text, no receiver in two of them, was one tra
 clocks are wrong. The page says the same of a book (`net/clock-offsets.js`); `clock_offsets` has
 more to go by, since it reads logs.
 """
+from __future__ import annotations
+
 import collections
 import itertools
 import operator
-from typing import (
-    Counter, DefaultDict, Dict, Iterable, Iterator, List, NamedTuple, Optional, Sequence, Tuple)
 
-from aprsbook_tools import stderr
+from aprsbook_tools import TYPE_CHECKING, stderr
 from aprsbook_tools.formats import book_file, moments
+from aprsbook_tools.records import NamedTuple
 from aprsbook_tools.reports import table
-from aprsbook_tools.reports.table import REST, Columns, Row
+from aprsbook_tools.reports.table import REST, Row
+
+if TYPE_CHECKING:
+    from typing import (
+        Counter, DefaultDict, Dict, Iterable, Iterator, List, Optional, Sequence, Tuple)
+
+    from aprsbook_tools.reports.table import Columns
 
 # what is read of each row: when and by whom it was heard, and its text, but for its digipeaters
 COLUMNS = ("first", "receivers", "source", "destination", "gate", REST)

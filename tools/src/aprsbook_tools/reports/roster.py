@@ -7,14 +7,18 @@ bib, as a spreadsheet saves them, perhaps in quotes, within which a line may bre
 head line may name them in another order, and one of `sep=;` the sign between them. Empty lines,
 rows of empty cells and lines that begin with # say nothing, and a byte order mark is passed over.
 """
+from __future__ import annotations
+
 import enum
 import re
-from typing import Dict, Iterable, Iterator, List, NamedTuple, Optional, Sequence, Tuple, Union
 
+from aprsbook_tools import TYPE_CHECKING
 from aprsbook_tools.errors import Fault
-from aprsbook_tools.formats import ax25
 from aprsbook_tools.formats.forms import form
-from aprsbook_tools.system import user_text
+from aprsbook_tools.records import NamedTuple
+
+if TYPE_CHECKING:
+    from typing import Dict, Iterable, Iterator, List, Optional, Sequence, Tuple, Union
 
 ANY = "-*"  # stands for any SSID
 LONGEST = 100_000  # letters of a line
@@ -78,6 +82,8 @@ def base_of(call: str) -> str:
 
 def call_of(text: str) -> Optional[str]:
     """A call as it is heard, or one of any SSID; nothing where it is none."""
+    from aprsbook_tools.formats import ax25  # where there is a call alone, as below
+
     text = text.strip()
     if not text.endswith(ANY):
         return ax25.spelled(text)
@@ -291,6 +297,8 @@ def roster_of(path: Optional[str]) -> Roster:
     """The roster of a file, which has no fault; an empty one where there is no file."""
     if path is None:
         return Roster()
+    from aprsbook_tools.system import user_text
+
     roster = read_roster(user_text.read(path))
     if roster.faults:
         raise Fault(f"{path}: " + "; ".join(roster.words_of_faults()))

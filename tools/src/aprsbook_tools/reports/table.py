@@ -1,21 +1,31 @@
 """The table of a book, by column names: a named tuple for each kind. Columns that this doesn't
 know are passed over, and those that an older aprsbook-table lacks are empty."""
+from __future__ import annotations
+
 import collections
 import itertools
 import operator
 import re
-from typing import (
-    Any, Callable, Dict, Iterable, Iterator, List, NamedTuple, Optional, Sequence, Tuple, Type,
-    TypeVar, cast)
 
+from aprsbook_tools import TYPE_CHECKING
 from aprsbook_tools.errors import Fault
 from aprsbook_tools.formats.forms import form
+from aprsbook_tools.records import NamedTuple
 from aprsbook_tools.system import programs
 
-T = TypeVar("T")
-Columns = List[Sequence[Any]]  # the values of each column of some rows
-ConvertColumn = Callable[[Sequence[str]], Sequence[Any]]
-Changes = Callable[[str], bool]  # says of the lines of a column whether one has to be written anew
+if TYPE_CHECKING:
+    from typing import (
+        Any, Callable, Dict, Iterable, Iterator, List, Optional, Sequence, Tuple, Type, TypeVar)
+
+    T = TypeVar("T")
+    Columns = List[Sequence[Any]]  # the values of each column of some rows
+    ConvertColumn = Callable[[Sequence[str]], Sequence[Any]]
+    # says of the lines of a column whether one has to be written anew
+    Changes = Callable[[str], bool]
+    DictOfAny = Dict[str, Any]
+else:
+    DictOfAny = dict
+
 SHOWN = form(r"((?:\\x[0-9a-f]{2})+)|\\\\")
 BIDI = frozenset("\u061c\u200e\u200f\u202a\u202b\u202c\u202d\u202e\u2066\u2067\u2068\u2069")
 
@@ -206,9 +216,9 @@ class Thing(NamedTuple):
 WORDS: Dict[Type[Any], str] = {
     Row: "rows", Message: "messages", Station: "stations", Thing: "things"}
 # how a field of a type is read
-READERS: Dict[Any, Callable[[str], Any]] = {
-    str: text_of, Tuple[str, ...]: names, Optional[int]: number, Optional[float]: decimal,
-    Optional[bool]: yes}
+READERS: Dict[str, Callable[[str], Any]] = {
+    "str": text_of, "Tuple[str, ...]": names, "Optional[int]": number,
+    "Optional[float]": decimal, "Optional[bool]": yes}
 # the first column that was added after the first version of a table
 LATE: Dict[Type[Any], str] = {Row: "messaging", Message: "reply_ack", Station: "heard"}
 # the moments by which a row is of a time: when it was first heard, or what is last known, last
@@ -351,7 +361,7 @@ def columns(kind: Type[Any], lines: Iterable[str], wanted: Wanted = ALL,
     yield from Layout(kind, next(lines, ""), names or columns_of(kind), wanted).columns(lines)
 
 
-class Known(Dict[str, Any]):
+class Known(DictOfAny):
     """The values of texts, each of which is read once."""
 
     def __init__(self, read: Callable[[str], Any]) -> None:
@@ -397,6 +407,11 @@ def is_escaped(lines: str) -> bool:
     return "\\" in lines
 
 
+def maker(name: str, columns_: Sequence[str]) -> Any:
+    """What makes named tuples of these columns."""
+    return collections.namedtuple(name, columns_)
+
+
 def named(make: Any, rows: Iterable[Tuple[Any, ...]]) -> Iterator[Any]:
     """Tuples of a size as named tuples of that size, which costs less than to make those."""
     return map(tuple.__new__, itertools.repeat(make), rows)
@@ -405,7 +420,7 @@ def named(make: Any, rows: Iterable[Tuple[Any, ...]]) -> Iterator[Any]:
 def read(kind: Type[T], lines: Iterable[str], names: Sequence[str] = (),
          wanted: Wanted = ALL) -> Iterator[T]:
     """The table's lines as a kind, or as named tuples of some of its columns."""
-    make = cast(Any, collections.namedtuple(kind.__name__, names)) if names else kind
+    make: Any = maker(kind.__name__, names) if names else kind
     names = names or columns_of(kind)
     own = [decimals(None) if it is decimal else
            converter(it, it(""), is_escaped if it is text_of else None)

@@ -4,17 +4,23 @@ from __future__ import annotations
 
 import argparse
 import itertools
-from typing import Any, Callable, Dict, Iterable, Iterator, List, Sequence, Tuple, Type
 
-from aprsbook_tools import arguments, progress, table_output
+from aprsbook_tools import TYPE_CHECKING, arguments, progress, table_output
 from aprsbook_tools.books import merged_inputs
 from aprsbook_tools.formats.forms import form
-from aprsbook_tools.formats.spreadsheet import Cell, cell_text, quoted
+from aprsbook_tools.formats.spreadsheet import cell_text, quoted
 from aprsbook_tools.reports import table, tactical
 from aprsbook_tools.reports.roster import Roster
-from aprsbook_tools.reports.table import Changes, Columns, ConvertColumn, is_escaped
+from aprsbook_tools.reports.table import is_escaped
 
-Convert = Callable[[Any], Any]
+if TYPE_CHECKING:
+    from typing import Any, Callable, Dict, Iterable, Iterator, List, Sequence, Tuple, Type
+    from aprsbook_tools.reports.table import Changes, Columns, ConvertColumn
+
+    from aprsbook_tools.formats.spreadsheet import Cell
+
+    Convert = Callable[[Any], Any]
+
 TEXTS = (table.text_of, table.names, table.yes)  # what reads texts
 SAME = form(r"-?(?:[1-9][0-9]{0,4}\.|0\.(?!000))[0-9]{0,9}[1-9]")
 BEGIN = form(r"\n[^0-9A-Za-z\n]")  # of what begins no word and no number

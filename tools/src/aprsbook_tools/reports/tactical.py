@@ -1,11 +1,15 @@
 """Tactical names beside the calls of a book's tables."""
 from __future__ import annotations
 
-from typing import Any, Dict, Iterable, Iterator, List, Tuple, Type
 
+from aprsbook_tools import TYPE_CHECKING
 from aprsbook_tools.reports.roster import Roster
-from aprsbook_tools.reports.table import (
-    Columns, Message, Row, Station, Thing, columns_of, text_of)
+from aprsbook_tools.reports.table import Message, Row, Station, Thing, columns_of, text_of
+
+if TYPE_CHECKING:
+    from typing import Any, Dict, Iterable, Iterator, List, Tuple, Type
+
+    from aprsbook_tools.reports.table import Columns
 
 # the columns of each table that have calls of stations
 CALLS: Dict[Type[Any], Tuple[str, ...]] = {

@@ -4,21 +4,26 @@ from __future__ import annotations
 
 import io
 import re
-from typing import Any, Callable, Dict, Iterable, Iterator, List, Sequence
 
+from aprsbook_tools import TYPE_CHECKING
 from aprsbook_tools.formats.forms import form
-from aprsbook_tools.formats.spreadsheet import Cell
 from aprsbook_tools.geo import Spot, cut_at_date_line
 from aprsbook_tools.reports.roster import Roster
 from aprsbook_tools.reports.table import Station
 from aprsbook_tools.reports.tracks import Place, SortedRow, Thing, place_of
 from aprsbook_tools.system import temporary
 
+if TYPE_CHECKING:
+    from typing import Any, Callable, Dict, Iterable, Iterator, List, Sequence
+
+    from aprsbook_tools.formats.spreadsheet import Cell
+
+    Places = Iterable[Sequence[Place]]  # those of each thing
+
 HEAD = (
     "kind name state first last receivers source lat lon ambiguity symbol course speed_knots "
     "altitude_m comment tactical"
 ).split()
-Places = Iterable[Sequence[Place]]  # those of each thing
 XML = '<?xml version="1.0" encoding="UTF-8"?>\n'
 
 

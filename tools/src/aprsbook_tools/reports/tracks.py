@@ -1,13 +1,18 @@
 """Where stations, objects and items were, of the rows of a book."""
-import collections
+from __future__ import annotations
+
 import itertools
 import operator
-from typing import Any, Callable, Iterable, Iterator, List, NamedTuple, Tuple, cast
 
+from aprsbook_tools import TYPE_CHECKING
 from aprsbook_tools.geo import Spot
+from aprsbook_tools.records import NamedTuple
 from aprsbook_tools.reports import table
 from aprsbook_tools.reports.table import Row
 from aprsbook_tools.system import sorting
+
+if TYPE_CHECKING:
+    from typing import Any, Callable, Iterable, Iterator, List, Tuple
 
 KINDS = ("station", "object", "item")
 OF_NAME = {"object": 1, "item": 2}  # the kinds of rows that give the place of what has a name
@@ -18,7 +23,7 @@ COLUMNS = (
     "symbol course speed_knots altitude_m text"
 ).split()
 VALUES = operator.attrgetter(*COLUMNS)
-SortedRow = cast(Callable[..., Row], collections.namedtuple("SortedRow", COLUMNS))
+SortedRow: Callable[..., Row] = table.maker("SortedRow", COLUMNS)
 
 
 class Place(NamedTuple):
@@ -121,7 +126,7 @@ def sortable(rows: Iterable[Row]) -> Iterator[Tuple[int, str, str, int, Tuple[An
             continue
         if north or east or row.state == "killed":
             kind = OF_NAME.get(row.kind, 0)
-            values = tuple(cast(Tuple[Any, ...], row))
+            values: Tuple[Any, ...] = tuple(row)
             yield kind, row.name if kind else row.source, row.first, number, values
 
 

@@ -13,12 +13,14 @@ import re
 import stat
 import threading
 import time
-from typing import IO, Iterator, List, Optional, Sequence, Union
 
-from aprsbook_tools import stdout
+from aprsbook_tools import TYPE_CHECKING, stdout
 from aprsbook_tools.books import inputs
 from aprsbook_tools.errors import ExitStatus, Fault, said
 from aprsbook_tools.system import disk, packing
+
+if TYPE_CHECKING:
+    from typing import IO, Iterator, List, Optional, Sequence, Union
 
 try:
     import fcntl

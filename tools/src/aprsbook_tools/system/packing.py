@@ -1,25 +1,31 @@
 """Packed files, by the endings of their names. What unpacks one is imported once there is one."""
 from __future__ import annotations
 
-from typing import IO, Callable, Dict, Tuple, Type, cast
+from aprsbook_tools import TYPE_CHECKING
+
+if TYPE_CHECKING:
+    from typing import IO, Callable, Dict, Tuple, Type
 
 
 def of_gzip(path: str) -> IO[bytes]:
     import gzip
+    from typing import cast
 
-    return cast(IO[bytes], gzip.open(path, "rb"))
+    return cast("IO[bytes]", gzip.open(path, "rb"))
 
 
 def of_xz(path: str) -> IO[bytes]:
     import lzma
+    from typing import cast
 
-    return cast(IO[bytes], lzma.open(path, "rb"))
+    return cast("IO[bytes]", lzma.open(path, "rb"))
 
 
 def of_bzip2(path: str) -> IO[bytes]:
     import bz2
+    from typing import cast
 
-    return cast(IO[bytes], bz2.open(path, "rb"))
+    return cast("IO[bytes]", bz2.open(path, "rb"))
 
 
 def of_zstd(path: str) -> IO[bytes]:

@@ -2,24 +2,28 @@
 are those of the Fault."""
 from __future__ import annotations
 
+import _thread
 import contextlib
 import itertools
 import os
 import re
-import subprocess
-import threading
-from typing import IO, Iterator, List, Optional, Sequence, Set, Tuple, Union
+import signal
 
-from aprsbook_tools import stderr
+from aprsbook_tools import TYPE_CHECKING, stderr
 from aprsbook_tools.errors import ExitStatus, Fault
-from aprsbook_tools.system import disk, temporary
+from aprsbook_tools.system import temporary
 
-Given = Union[bytes, IO[bytes], None]  # None: standard input as it is
+if TYPE_CHECKING:
+    import subprocess
+    from typing import IO, Iterator, List, Optional, Sequence, Set, Tuple, Union
+
+    Given = Union[bytes, IO[bytes], None]  # None: standard input as it is
+
 RUNNING: Set["subprocess.Popen[bytes]"] = set()  # what threads have started
-STARTING = threading.Lock()
+STARTING = _thread.allocate_lock()  # `threading` is imported once there are threads
 BLOCK = 1 << 16  # bytes that are read at a time
 MANY = 100  # files, which any system opens
-ENDED = threading.Event()  # whether a signal has asked for the end
+_has_ended = False  # whether a signal has asked for the end
 
 
 def path_of(program: str) -> Optional[str]:
@@ -91,20 +95,66 @@ def fault_line(fault: Fault, place: str) -> Optional[Tuple[int, str]]:
 
 def go_on() -> None:
     """A Fault where a signal has asked for the end, for a thread that wasn't told."""
-    if ENDED.is_set():
+    if _has_ended:
         raise Fault("ended by a signal", ExitStatus.OUTPUT)
 
 
 def end_all() -> None:
     """Ends the programs that threads run; no other begins."""
+    global _has_ended
     with STARTING:
-        ENDED.set()
+        _has_ended = True
         for process in [*RUNNING]:
             process.kill()
 
 
+class Started:
+    """A program that writes into a pipe, as of `subprocess`, whose import takes as long as a small
+    report."""
+
+    def __init__(self, command: List[str], given: Optional[IO[bytes]], complaint: IO[bytes]
+                 ) -> None:
+        begin, end = os.pipe()
+        files = [(end, 1), (complaint.fileno(), 2), *([(given.fileno(), 0)] if given else [])]
+        try:
+            self.number = os.posix_spawn(
+                command[0], command, os.environ,
+                file_actions=[(os.POSIX_SPAWN_DUP2, *it) for it in files if it[0] != it[1]],
+                setsigdef=[signal.SIGPIPE, signal.SIGXFSZ])  # which Python passes over
+        except BaseException:
+            os.close(begin)
+            raise
+        finally:
+            os.close(end)
+        self.stdout = open(begin, "rb")
+
+    def kill(self) -> None:
+        """Ends it."""
+        with contextlib.suppress(ProcessLookupError):
+            os.kill(self.number, signal.SIGKILL)
+
+    def wait(self) -> int:
+        """Waits for its end, once; its status."""
+        try:
+            return os.waitstatus_to_exitcode(os.waitpid(self.number, 0)[1])
+        except ChildProcessError:
+            return 0  # whoever started this has ends passed over, which tells no status
+
+
+def start(command: List[str], given: Optional[IO[bytes]], complaint: IO[bytes]
+          ) -> Union[Started, "subprocess.Popen[bytes]"]:
+    """Starts a program, whose command begins with its path."""
+    if hasattr(os, "posix_spawn"):
+        return Started(command, given, complaint)
+    import subprocess  # on Windows, as below for what is read whole
+
+    return subprocess.Popen(command, stdin=given, stdout=subprocess.PIPE, stderr=complaint)
+
+
 def run(*command: str, given: Given = b"", into: Optional[IO[bytes]] = None) -> bytes:
     """What a program writes, or nothing where that goes `into` a file."""
+    import subprocess
+
     open_many_files()
     path = find(command[0])
     stderr.detail(f"runs {' '.join(command)}")
@@ -129,6 +179,8 @@ def run(*command: str, given: Given = b"", into: Optional[IO[bytes]] = None) -> 
     if process.returncode:
         fault = fault_of(command, process.returncode, complaint)
         if into is not None and fault.words == "cannot write":
+            from aprsbook_tools.system import disk  # only where something is wrong
+
             fault.words = f"cannot write in {folder_of(into)}{disk.room_words(folder_of(into))}"
         raise fault
     return written or b""
@@ -140,6 +192,8 @@ def folder_of(file: IO[bytes]) -> str:
         import tempfile  # only where something is wrong
 
         return tempfile.gettempdir()
+    from aprsbook_tools.system import disk
+
     folder = os.path.dirname(file.name)
     return os.path.dirname(folder) if folder.endswith(disk.WORK) else folder  # which goes away
 
@@ -176,6 +230,8 @@ def hold(file: IO[bytes], given: bytes) -> None:
             rest = rest[file.write(rest):]
         file.seek(0)
     except OSError as fault:
+        from aprsbook_tools.system import disk
+
         folder = folder_of(file)
         raise Fault(f"cannot write in {folder}{disk.room_words(folder)}",
                     ExitStatus.OUTPUT) from fault
@@ -198,8 +254,7 @@ def blocks(*command: str, given: Given = None) -> Iterator[List[str]]:
             held = files.enter_context(temporary.unbuffered())
             hold(held, given)
             given = held
-        process = subprocess.Popen(
-            [path, *command[1:]], stdin=given, stdout=subprocess.PIPE, stderr=complaint)
+        process = start([path, *command[1:]], given, complaint)
         assert process.stdout is not None
         try:
             yield from lines_in(process.stdout)

@@ -5,9 +5,12 @@ import contextlib
 import heapq
 import itertools
 import marshal
-from typing import IO, Any, Iterable, Iterator, List, Tuple
 
+from aprsbook_tools import TYPE_CHECKING
 from aprsbook_tools.system import temporary
+
+if TYPE_CHECKING:
+    from typing import IO, Any, Iterable, Iterator, List, Tuple
 
 RUN = 20_000  # items that are sorted at once
 BLOCK = 1_000  # items that are read at once of a run

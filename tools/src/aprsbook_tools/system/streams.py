@@ -3,11 +3,13 @@ from __future__ import annotations
 
 import contextlib
 import sys
-from typing import IO, Iterator, Optional, Sequence
 
-from aprsbook_tools import stderr, stdout
+from aprsbook_tools import TYPE_CHECKING, stderr, stdout
 from aprsbook_tools.books import inputs
 from aprsbook_tools.errors import Fault
+
+if TYPE_CHECKING:
+    from typing import IO, Iterator, Optional, Sequence
 
 BLOCK = 1 << 16  # bytes that are written at a time
 

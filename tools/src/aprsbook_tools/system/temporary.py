@@ -4,7 +4,11 @@ from __future__ import annotations
 
 import contextlib
 import os
-from typing import IO, Iterator
+
+from aprsbook_tools import TYPE_CHECKING
+
+if TYPE_CHECKING:
+    from typing import IO, Iterator
 
 
 @contextlib.contextmanager
