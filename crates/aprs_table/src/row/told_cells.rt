@@ -1,5 +1,5 @@
 //! The fields of what a row's frame tells.
-ghost use Rattle.std.specs.Prelude.{◌≡◌, map, Some};
+ghost use Rattle.std.specs.Prelude.{◌≡◌, ◌∷◌, ◌++◌, [], map, Some};
 ghost use Rattle.std.specs.List.{flat_map};
 ghost use Rattle.std.specs.Option.{option_map};
 ghost use Rattle.aprs_details.specs.Frequency.{frequency_view};
@@ -175,6 +175,33 @@ pub fn put_told<W: Write>(out: &mut Outlet<'_, W>, told: &Told<'_>) -> Result<()
     put_telemetry(out, told.telemetry, told.measured)?;
     put_text(out, told)?;
     put_more(out, told)?;
+    put_end(out, told)
+}
+
+/// Puts the fields of a transmitter, of a frequency and of more digits, each after a tab, and LF.
+/// All that is put at once where none of them is told. Fails where the output is refused.
+fn put_end<W: Write>(out: &mut Outlet<'_, W>, told: &Told<'_>) -> Result<(), WriteFault>
+    ensures { Puts W.contents result out.old out.new
+        (flat_map Spec.after_tab (Cells.phg_cells (told_view told.now).phg)
+        ++ (flat_map Spec.after_tab (Cells.frequency_cells (told_view told.now).frequency)
+        ++ (flat_map Spec.after_tab (Cells.finer_cells told.now.place told.now.precision)
+        ++ 10 ∷ []))) }
+{
+    match (told.phg, told.frequency, told.precision) {
+        (None, None, None) => out.put(b"\t\t\t\t\t\t\t\t\t\n"),
+        _ => put_known_end(out, told),
+    }
+}
+
+/// Puts the fields of a transmitter, of a frequency and of more digits, each after a tab, and LF.
+/// Fails where the output is refused.
+fn put_known_end<W: Write>(out: &mut Outlet<'_, W>, told: &Told<'_>) -> Result<(), WriteFault>
+    ensures { Puts W.contents result out.old out.new
+        (flat_map Spec.after_tab (Cells.phg_cells (told_view told.now).phg)
+        ++ (flat_map Spec.after_tab (Cells.frequency_cells (told_view told.now).frequency)
+        ++ (flat_map Spec.after_tab (Cells.finer_cells told.now.place told.now.precision)
+        ++ 10 ∷ []))) }
+{
     put_phg(out, told.phg)?;
     put_frequency(out, told.frequency)?;
     put_finer(out, told.place, told.precision)?;
