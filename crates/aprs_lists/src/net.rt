@@ -21,10 +21,12 @@ ghost use Rattle.aprs_lists.specs.Told as Spec;
 
 pub(crate) mod answers;
 pub(crate) mod copies;
+pub(crate) mod packed_call;
 pub(crate) mod runs;
 pub(crate) mod sort;
 
 use crate::net::answers::{Answer, Question, first_answer};
+use crate::net::packed_call::PackedCall;
 use crate::net::runs::{MessageRun, MessageRuns};
 use crate::said::call_in;
 use crate::table::{Lines, write_table};
@@ -152,7 +154,7 @@ fn told_by<'t>(
     let (id, number) = (message.id, number_of(message));
     let answer = earlier_answer(by_ack, by_reply);
     MessageLine {
-        source: message.source.copy(),
+        source: message.source.unpacked(),
         addressee: message.addressee,
         text: message.text,
         id,
@@ -185,7 +187,7 @@ fn answer_to<'s, 't>(
     let least = Answer {
         question: Question {
             source: message.source.copy(),
-            answerer,
+            answerer: PackedCall::of(&answerer),
             number,
             is_reply,
         },
@@ -275,12 +277,12 @@ fn earlier_answer<'s, 't>(
     }
 }
 
-/// A copy of the gate, if there is one.
-fn gate_of(gate: &Option<Callsign>) -> Option<Callsign>
+/// The gate, if there is one.
+fn gate_of(gate: &Option<PackedCall>) -> Option<Callsign>
     ensures { result ≡ gate.now }
 {
     match gate {
-        Some(gate) => Some(gate.copy()),
+        Some(gate) => Some(gate.unpacked()),
         None => None,
     }
 }

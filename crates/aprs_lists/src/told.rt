@@ -9,6 +9,7 @@ ghost use Rattle.aprs_lists.specs.Told as Spec;
 use crate::class::class_text;
 use crate::line::put_line;
 use crate::net::copies::MessageName;
+use crate::net::packed_call::PackedCall;
 use aprs_ax25::Callsign;
 use aprs_io::{Outlet, WriteFault};
 use aprs_log::Moment;
@@ -74,7 +75,7 @@ fn answer_cells<'t>(line: &MessageLine<'t>) -> [Cell<'t>; 9]
     let (answered, by) = answer_of(line);
     let (reply_ack, replied) = reply_ack_of(line.reply_ack);
     let name = MessageName {
-        source: line.source.copy(),
+        source: PackedCall::of(&line.source),
         addressee: line.addressee,
         text: line.text,
         id: line.id,

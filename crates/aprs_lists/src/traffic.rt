@@ -25,8 +25,10 @@ ghost use Rattle.aprs_lists.specs.Traffic as Spec;
 
 use crate::net::answers::{Answer, Question};
 use crate::net::copies::{MessageCopy, MessageName};
+use crate::net::packed_call::PackedCall;
 use crate::net::sort::{sort_answers, sort_copies};
 use crate::said::{Said, call_in, said_in};
+use aprs_ax25::Callsign;
 use aprs_report::Report;
 use aprs_rows::{BookRows, BookStore, Memory, RowView, WalkRoom};
 use aprs_summary::acknowledged_in;
@@ -167,6 +169,7 @@ fn put_copy<'t, A: Allocator + Copy>(
         ≡ Spec.with_one (map copy_of copies.old.items) (option_map copy_of copy.entry)) }
 {
     if let Some(copy) = copy {
+        make_room(copies)?;
         copies.push(copy)?;
     }
     Ok(())
@@ -181,8 +184,23 @@ fn put_answer<'t, A: Allocator + Copy>(
         ≡ Spec.with_one (map reply_of answers.old.items) (option_map reply_of answer.entry)) }
 {
     if let Some(answer) = answer {
+        make_room(answers)?;
         answers.push(answer)?;
     }
+    Ok(())
+}
+
+/// Makes room for one more item. Where there is none, takes room for three times as many again:
+/// what was outgrown stays behind in many systems, and room that isn't written to takes no memory
+/// there. The items stay as they are, also after `Memory`.
+fn make_room<T, A: Allocator>(items: &mut Vec<T, A>) -> Result<(), Memory>
+    ensures { items.new.items ≡ items.old.items }
+{
+    if items.len() < items.capacity() {
+        return Ok(());
+    }
+    let more = items.len().saturating_mul(3).max(16);
+    items.reserve_exact(more)?;
     Ok(())
 }
 
@@ -195,9 +213,19 @@ fn copy_in<'t>(row: &RowView<'t>) -> Option<MessageCopy<'t>>
     Some(MessageCopy {
         message,
         first: row.first(),
-        gate: said.gate,
+        gate: packed(said.gate),
         last: row.last(),
     })
+}
+
+/// The callsign in few bytes, if there is one.
+fn packed(call: Option<Callsign>) -> Option<PackedCall>
+    ensures { result ≡ call }
+{
+    match call {
+        Some(call) => Some(PackedCall::of(&call)),
+        None => None,
+    }
 }
 
 /// The message that is said, or `None` where it is none.
@@ -211,7 +239,7 @@ fn message_in<'t>(said: &Said<'t>) -> Option<MessageName<'t>>
             text,
             id,
         } => Some(MessageName {
-            source: said.source.copy(),
+            source: PackedCall::of(&said.source),
             addressee,
             text,
             id,
@@ -229,8 +257,8 @@ fn answer_in<'t>(row: &RowView<'t>) -> Option<Answer<'t>>
     let source = call_in(parts.addressee)?;
     Some(Answer {
         question: Question {
-            source,
-            answerer: said.source,
+            source: PackedCall::of(&source),
+            answerer: PackedCall::of(&said.source),
             number: parts.number,
             is_reply: parts.is_reply,
         },

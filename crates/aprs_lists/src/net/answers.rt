@@ -13,16 +13,16 @@ ghost use Rattle.aprs_transmissions.specs.Order.{IsUpTo};
 ghost use Rattle.aprs_lists.specs.Answers as Spec;
 ghost use Rattle.aprs_lists.specs.Chosen.{chosen};
 
-use aprs_ax25::Callsign;
+use crate::net::packed_call::PackedCall;
 use aprs_log::Moment;
 
 /// What an answer is for.
 #[derive(PartialEq, Eq, PartialOrd, Ord, Drop)]
 pub struct Question<'t> {
     /// Who sent the message.
-    pub source: Callsign,
+    pub source: PackedCall,
     /// To whom, who answers.
-    pub answerer: Callsign,
+    pub answerer: PackedCall,
     /// The id of the message, or the number that its text has for reply-acks.
     pub number: &'t [u8],
     /// Whether the answer is a reply-ack.

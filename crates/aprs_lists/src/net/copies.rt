@@ -1,14 +1,14 @@
 //! Copies of messages.
 ghost use Rattle.std.specs.Prelude.{◌≡◌};
 
-use aprs_ax25::Callsign;
+use crate::net::packed_call::PackedCall;
 use aprs_log::Moment;
 
 /// What makes copies one message: all of these fields.
 #[derive(PartialEq, Eq, PartialOrd, Ord, Drop)]
 pub struct MessageName<'t> {
     /// Who sent it.
-    pub source: Callsign,
+    pub source: PackedCall,
     /// To whom, without the spaces at its end.
     pub addressee: &'t [u8],
     /// What it says, without the brace and the id, and without CR and LF at its end.
@@ -40,7 +40,7 @@ pub struct MessageCopy<'t> {
     /// The first moment at which the copy was heard.
     pub first: Moment,
     /// The station that passed it on, or `None` where its sender itself was heard.
-    pub gate: Option<Callsign>,
+    pub gate: Option<PackedCall>,
     /// The last moment at which the copy was heard.
     pub last: Moment,
 }
