@@ -61,7 +61,7 @@ REJECTED = re.compile(r"^(?:\./)?(specs/\S+?):(\d+):\d+: error: (.*)$")
 # at most so many changes in one check
 MOST = 12
 
-Clause = Tuple[str, str]  # an example's function, and its clause; of a law the function alone
+Clause = Tuple[str, str]  # a function, and its clause, or no text for all of them
 Cited = Dict[Clause, "Citing"]
 Lines = Dict[Tuple[str, int], str]  # what stands in place of a line of a file
 
@@ -193,28 +193,29 @@ def with_imports(text: str) -> str:
 
 
 def cited_by(crate: str, topic: str) -> Cited:
-    """The definitions of this crate that each clause of its examples, or each of its laws and what
-    proves that, cites, directly or through others."""
+    """The definitions of this crate that each clause of its examples cites, directly or through
+    others; and, under no name, what all clauses of an example or of a law and their proof cite."""
     facts, found = Statement(), {}
     source = pathlib.Path(f"crates/{crate}/src")
     for path in sorted([*source.glob(f"{topic}.rt"), *source.glob(f"{topic}/**/*.rt")]):
         for call in functions_of(str(path), lambda *_: True):
             name = call.name.split("::")[-1]
-            if topic == "laws":
-                proved = {it for it in map(facts.found, names_of_proof(crate, name, facts)) if it}
-                clauses = [("", call.clauses, proved)]
-            else:
-                clauses = [(it[0], [it], set()) for it in call.clauses]
-            for clause, said, proved in clauses:
+            proof = names_of_proof(crate, topic, name, facts)
+            parts = [("", call.clauses, {it for it in map(facts.found, proof) if it})]
+            if topic == "examples":
+                parts += [(it[0], [it], set()) for it in call.clauses]
+            for clause, said, proved in parts:
                 closure = facts.closure(facts.roots(said, call.scope) | proved)
                 keys = frozenset(it for it in closure if it.crate == crate)
                 found[name, clause] = Citing(keys, " ".join(text for _, text in said))
     return found
 
 
-def names_of_proof(crate: str, law: str, facts: Statement) -> Set[Key]:
-    """What the proof of a law imports of specs/, itself or through other files of proofs/."""
-    todo = sorted(pathlib.Path(f"crates/{crate}/proofs/laws").glob(f"**/{law}/*.antt"))
+def names_of_proof(crate: str, topic: str, function: str, facts: Statement) -> Set[Key]:
+    """What the proof of an example or a law imports of specs/, itself or through other files of
+    proofs/."""
+    folder = pathlib.Path(f"crates/{crate}/proofs/{topic}")
+    todo = sorted(folder.glob(f"**/{function}/*.antt"))
     seen: Set[pathlib.Path] = set()
     names: Set[Key] = set()
     while todo:
@@ -262,7 +263,7 @@ def first_tried(change: Change, own: Set[Clause], cited: Cited) -> Set[str]:
     little to compute."""
     size: Dict[str, int] = collections.Counter()
     for name, clause in own:
-        size[name] += len(cited[name, clause].text)
+        size[name] = max(size[name], len(cited[name, clause].text))
     named = {name for name, clause in own if f'"{change.word}"' in cited[name, clause].text}
     return set(sorted(size, key=lambda name: (name not in named, size[name], name))[:2])
 

@@ -99,6 +99,10 @@ class Lots(unittest.TestCase):
         wanted = {("first", name) for name in ("reads", "ensures", "")}
         self.assertEqual(pairs.refused_clauses(said), wanted)
 
+    def test_what_is_proved_by_hand_is_refused_as_a_whole(self) -> None:
+        said = ["fn low::examples::marks::first: not proved", "fn low::laws::second: no proof"]
+        self.assertEqual(pairs.refused_clauses(said), {("first", ""), ("second", "")})
+
     def test_a_line_that_does_not_compile(self) -> None:
         said = ["./specs/Bytes.antt:6:3: error: `nat_le` is not in scope"]
         hurt = pairs.Change("hurt", {("specs/Bytes.antt", 5): ""}, None)

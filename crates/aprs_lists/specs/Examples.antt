@@ -1,5 +1,5 @@
 -- Messages, answers, reports and rows that the worked examples are about.
-use Rattle.std.specs.Prelude.{ℕ, Bool, true, false, List, [], ◌∷◌, Option, None, codes}
+use Rattle.std.specs.Prelude.{◌≡◌, ◌⊎◌, ℕ, Bool, true, false, List, [], ◌∷◌, Option, None, codes}
 use Rattle.aprs_log.specs.Reception.{Received}
 use Rattle.aprs_transmissions.specs.Examples.{example_row, n0call, reception_at, rx1}
 use Rattle.aprs_transmissions.specs.Row.{Row}
@@ -64,3 +64,7 @@ row_by ssid moment info = example_row moment (rx1 ∷ []) (heard_by ssid moment 
 abbrev pub active_rows : List Row
 active_rows = row_by 7 40 (codes ">Hi") ∷ row_by 7 30 (codes ">Ho") ∷ row_by 8 20 (codes ">Hi")
     ∷ row_by 8 50 (codes "}N0CALL-9>APRS:>Hi") ∷ []
+
+-- The moment is 0 or 20.
+abbrev pub IsZeroOrTwenty : ℕ → Type 0
+IsZeroOrTwenty m = (m ≡ 0) ⊎ (m ≡ 20)

@@ -1,8 +1,9 @@
 //! Worked examples of runs of copies and of first answers, and near misses.
 ghost use Rattle.std.specs.Prelude.{◌≡◌, [], ◌∷◌, None, Some};
 ghost use Rattle.aprs_lists.specs.Answers.{first_in_time};
+ghost use Rattle.aprs_lists.specs.Examples.{IsZeroOrTwenty};
 ghost use Rattle.aprs_lists.specs.NetExamples.{ack_at, rej_at, reply_at, said, sent};
-ghost use Rattle.aprs_lists.specs.Runs.{runs_of};
+ghost use Rattle.aprs_lists.specs.Runs.{IsCopyOf, IsRunOf, runs_of};
 
 /// A copy goes on a run if it begins at most the gap after the end of those before, also where one
 /// of these ends later than the last of them. The next run says when the one before ends to count.
@@ -31,4 +32,23 @@ pub fn first_answers_are_in_time()
     ensures first_of_two { first_in_time (ack_at 100) None
         (ack_at 99 ∷ rej_at 101 ∷ ack_at 102 ∷ []) ≡ Some (rej_at 101) }
     ensures of_another_form { first_in_time (ack_at 100) None (reply_at 100 ∷ []) ≡ None }
+{}
+
+/// A run goes on over the gap, and ends where nothing is within it.
+pub fn runs_are_bounded_by_the_gap()
+    ensures apart { IsRunOf 19 IsZeroOrTwenty 0 0 }
+    ensures together { IsRunOf 20 IsZeroOrTwenty 0 20 }
+    ensures misses_after { IsRunOf 20 IsZeroOrTwenty 0 0 → ⊥ }
+    ensures misses_before { IsRunOf 20 IsZeroOrTwenty 20 20 → ⊥ }
+    ensures misses_between { IsRunOf 19 IsZeroOrTwenty 0 20 → ⊥ }
+    ensures misses_order { IsRunOf 19 IsZeroOrTwenty 20 0 → ⊥ }
+    ensures misses_first { IsRunOf 19 IsZeroOrTwenty 19 20 → ⊥ }
+    ensures misses_last { IsRunOf 19 IsZeroOrTwenty 0 1 → ⊥ }
+{}
+
+/// A run has the copies that lie in it.
+pub fn runs_have_copies()
+    ensures whole { IsCopyOf (sent 5 9 None) (said 5 9) }
+    ensures misses_before { IsCopyOf (sent 5 9 None) (said 4 9) → ⊥ }
+    ensures misses_after { IsCopyOf (sent 5 9 None) (said 5 10) → ⊥ }
 {}
