@@ -1,4 +1,8 @@
 //! What is listed of a book: its stations, its objects and items, and its messages.
+//!
+//! Words of the contracts here:
+//! - `ReportsStations`: whatever receptions the rows are the book of, the list has each of their
+//!   sources once, ascending, with the number of its rows and its last known position and status.
 ghost use Rattle.std.specs.Prelude.{◌≡◌, IfOk, length};
 ghost use Rattle.aprs_transmissions.specs.Gap.{millis_of};
 ghost use Rattle.aprs_summary.specs.Exchange.{IsExchangeOf};

@@ -19,7 +19,7 @@ use Rattle.aprs_bookfile.specs.declared.version.Version.{Version}
 
 -- ---- what is wrong with a whole line
 
--- The line is the header of no version.
+-- The line is the header of no version, and the cause is `Header`.
 abbrev pub IsNoHeader : List ℕ → BookCause → Type 0
 IsNoHeader line cause =
     ((version : Version) → IsVersion version → line ≢ header_of version) × (cause ≡ why.Header)

@@ -1,4 +1,11 @@
 //! The rows that are kept of a text, and the line of the last.
+//!
+//! Words of the contracts here:
+//! - A row is sound by itself (`IsSoundRow`) if its first moment isn't after its last, its
+//!   receivers strictly ascend, and that of its greatest reception is among them, the last of them
+//!   where both moments are equal.
+//! - `IsShort`: the names of a row's receivers, with commas between, have fewer than 4,294,967,296
+//!   bytes.
 ghost use Rattle.std.specs.Prelude.{◌≡◌, [], ◌∷◌, ◌++◌, None, Some, IfNone, IfSome, OnErr, OnOk};
 ghost use Rattle.std.specs.List.{last_or};
 ghost use Rattle.aprs_transmissions.specs.Sound.{AreSoundRows, IsSoundRow};

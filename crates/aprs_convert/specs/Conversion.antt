@@ -13,14 +13,14 @@ use Rattle.aprs_log.specs.LogText.{HasLogFault, IsLogText}
 use Rattle.aprs_log.specs.Reception.{Received}
 use Rattle.aprs_log.specs.declared.fault.LogCause.TheVariants as why
 use Rattle.aprs_log.specs.declared.fault.LogFault.{LogFault}
-use Rattle.aprs_convert.specs.Monitor.{monitor_text, kind_text}
+use Rattle.aprs_convert.specs.Monitor.{monitor_text, kind_and_monitor_text}
 use Rattle.aprs_convert.specs.declared.form.Form.{Form}
 use Rattle.aprs_convert.specs.declared.form.Form.TheVariants as form
 
 -- What is written for a reception: a capture is written as a log.
 abbrev pub reception_text : Form → Received → List ℕ
 reception_text form.Text x = monitor_text (parts_of x.frame) ++ codes "\n"
-reception_text form.Kind x = kind_text (parts_of x.frame) ++ codes "\n"
+reception_text form.Kind x = kind_and_monitor_text (parts_of x.frame) ++ codes "\n"
 reception_text form.Kiss x = kiss_text x.frame
 reception_text other x = written_line x ++ codes "\n"
 

@@ -16,5 +16,5 @@ monitor_text p = call_text p.source.call ++ codes ">" ++ call_text p.destination
     ++ flat_map hop_text (map hop_of p.digipeaters) ++ codes ":" ++ shown_text p.info
 
 -- The kind of report that the information is, a space, and the frame as a monitor prints it.
-abbrev pub kind_text : Parts → List ℕ
-kind_text p = kind_of (reading_of p.info) ++ codes " " ++ monitor_text p
+abbrev pub kind_and_monitor_text : Parts → List ℕ
+kind_and_monitor_text p = kind_of (reading_of p.info) ++ codes " " ++ monitor_text p

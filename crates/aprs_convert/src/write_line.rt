@@ -5,7 +5,7 @@ ghost use Rattle.aprs_kiss.specs.Device.{Sends};
 ghost use Rattle.aprs_report.specs.Reader.{reading_of};
 ghost use Rattle.aprs_report.specs.Reading.{kind_of};
 ghost use Rattle.arrayvec.specs.ArrayVec.{array_vec_len};
-ghost use Rattle.aprs_convert.specs.Monitor.{monitor_text, kind_text};
+ghost use Rattle.aprs_convert.specs.Monitor.{monitor_text, kind_and_monitor_text};
 ghost use Rattle.aprs_convert.specs.Conversion.{reception_text};
 ghost use Rattle.aprs_convert.specs.Plan.{line_text};
 
@@ -94,7 +94,8 @@ fn write_kind_line<W: Write>(
     frame: &Frame,
     text: &mut Text,
 ) -> Result<(), WriteFault>
-    ensures { Sends W.contents result w.old w.new (kind_text (parts_of frame.now) ++ codes "\n") }
+    ensures { Sends W.contents result w.old w.new
+        (kind_and_monitor_text (parts_of frame.now) ++ codes "\n") }
 {
     text.clear();
     push_kind_line(text, frame);
@@ -105,7 +106,7 @@ fn write_kind_line<W: Write>(
 /// which is empty.
 fn push_kind_line(text: &mut Text, frame: &Frame)
     requires { text.old.items ≡ [] }
-    ensures { text.new.items ≡ kind_text (parts_of frame.now) ++ codes "\n" }
+    ensures { text.new.items ≡ kind_and_monitor_text (parts_of frame.now) ++ codes "\n" }
 {
     push_kind(text, frame.info());
     text.push(b' ');

@@ -17,12 +17,12 @@ halves_of info comment = record {
   is_west = before_comment info comment 2 == octet "W";
 }
 
--- The halves of a Mic-E position, by the letters of its destination: from P on the fourth is north,
--- and the sixth is west.
-abbrev pub mic_e_halves_of : (letters : List ℕ) → Halves
-mic_e_halves_of letters = record {
-  is_south = nat_lt (slice_index letters 3) (octet "P");
-  is_west = nat_le (octet "P") (slice_index letters 5);
+-- The halves of a Mic-E position, by the characters of its destination: from P on the fourth is
+-- north, and the sixth is west.
+abbrev pub mic_e_halves_of : (characters : List ℕ) → Halves
+mic_e_halves_of characters = record {
+  is_south = nat_lt (slice_index characters 3) (octet "P");
+  is_west = nat_le (octet "P") (slice_index characters 5);
 }
 
 -- The number is so many parts in this half of the globe.

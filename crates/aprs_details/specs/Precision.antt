@@ -92,6 +92,6 @@ signed_precision_of info comment = precision_of comment
 
 -- The digits that the comment of a Mic-E position says, with the halves that its destination's
 -- letters name.
-abbrev pub mic_e_signed_precision_of : (letters comment : List ℕ) → Option SignedPrecision
-mic_e_signed_precision_of letters comment = precision_of comment
-    >>= λ x. Some (record { digits = x; halves = mic_e_halves_of letters })
+abbrev pub mic_e_signed_precision_of : (characters comment : List ℕ) → Option SignedPrecision
+mic_e_signed_precision_of characters comment = precision_of comment
+    >>= λ x. Some (record { digits = x; halves = mic_e_halves_of characters })

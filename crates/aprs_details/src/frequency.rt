@@ -163,7 +163,7 @@ fn tuned_at(text: &[u8]) -> Option<Frequency<'_>>
     })
 }
 
-/// Whether some bytes begin with a data extension: course and speed, a range, or a transmitter. DFS
+/// Whether these seven bytes are a data extension: course and speed, a range, or a transmitter. DFS
 /// isn't one of them.
 fn is_extension(field: &[u8]) -> bool
     ensures { result ≡ Spec.is_extension field.now }

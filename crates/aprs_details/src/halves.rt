@@ -37,13 +37,13 @@ impl Halves {
         }
     }
 
-    /// The halves of a Mic-E position, by the letters of its destination. Takes no memory.
-    pub fn of_mic_e(letters: &[u8]) -> Halves
-        ensures { result ≡ Spec.mic_e_halves_of letters.now }
+    /// The halves of a Mic-E position, by the characters of its destination. Takes no memory.
+    pub fn of_mic_e(characters: &[u8]) -> Halves
+        ensures { result ≡ Spec.mic_e_halves_of characters.now }
     {
         Halves {
-            is_south: byte_at(letters, 3) < b'P',
-            is_west: b'P' <= byte_at(letters, 5),
+            is_south: byte_at(characters, 3) < b'P',
+            is_west: b'P' <= byte_at(characters, 5),
         }
     }
 }

@@ -178,12 +178,12 @@ impl SignedPrecision {
     }
 
     /// The first further digits in the comment of a Mic-E position, with the halves that the
-    /// letters of its destination name. `None` where the comment has none. Takes no memory.
-    pub fn of_mic_e(letters: &[u8], comment: &[u8]) -> Option<SignedPrecision>
-        ensures { result ≡ Spec.mic_e_signed_precision_of letters.now comment.now }
+    /// characters of its destination name. `None` where the comment has none. Takes no memory.
+    pub fn of_mic_e(characters: &[u8], comment: &[u8]) -> Option<SignedPrecision>
+        ensures { result ≡ Spec.mic_e_signed_precision_of characters.now comment.now }
     {
         let digits = Precision::of_comment(comment)?;
-        let halves = Halves::of_mic_e(letters);
+        let halves = Halves::of_mic_e(characters);
         Some(SignedPrecision { digits, halves })
     }
 

@@ -48,9 +48,8 @@ IsPart contents gap fault rows last old new = (part : List ℕ) × (rest : List 
     × LacksEnd (header_text gap ++ part)
 
 -- What was written before the fold ended early: a part of a book's text (`IsPart`), with those of
--- these rows whose sources are within the range. `rows` are final: whatever the inputs go on to be,
--- the book of all begins with them (`BeginsBook`). With `last` they are the book of
--- the rows that were taken of the inputs (`EndsAsBook`).
+-- these rows whose sources are within the range. `IsBegun`: the rows that were taken are folded
+-- into `rows`, which are final, and `last`, which may still be joined; or both are empty.
 pub record IsLeft {R W : Type 0} (remaining : R → Option (List ℕ))
     (contents : W → Option (List ℕ)) (limit gap : ℕ) (range : SourceRange) (fault : FoldFault)
     (first now : List (Counted R)) (old new : Counted W) : Type 0 where

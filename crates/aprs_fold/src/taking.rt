@@ -1,6 +1,11 @@
 //! Rows that are taken in order and written, once no later row can join them.
 //!
 //! Words of the contracts here:
+//! - A row is sound by itself (`IsSoundRow`) if its first moment isn't after its last, its
+//!   receivers strictly ascend, and that of its greatest reception is among them, the last of them
+//!   where both moments are equal.
+//! - `IsShort`: the names of a row's receivers, with commas between, have fewer than 4,294,967,296
+//!   bytes.
 //! - The last row is still open: later rows may join it. A next row that is near joins it. Any
 //!   other closes it, so that its line is put, and takes its place.
 //! - `Takes`: the next row was taken so. `wrote` says whether the last row's line was put, which is

@@ -6,7 +6,7 @@ use borrow.Rule.Slice.PartMut.{put_mid}
 use Rattle.aprs_log.specs.declared.moment_form.MomentForm.{MomentForm}
 use Rattle.aprs_log.specs.declared.moment_form.MomentForm.TheVariants.{Seconds, Millis}
 use Rattle.aprs_log.specs.Clock.{IsFractionText, SecondText, clock_text, form_of_end, midnight_text}
-use Rattle.aprs_log.specs.Moment.{date_text, day_after, four_digits, fraction_text, moment_text, moment_text_in, room_of, time_text, two_digits}
+use Rattle.aprs_log.specs.Moment.{date_text, day_after, four_digits, fraction_text, moment_text, moment_text_in, moments_per_second, time_text, two_digits}
 use Rattle.aprs_log.specs.CivilMoment.{IsCivil}
 use Rattle.aprs_log.specs.MomentReading.{Civil, civil_text, form_of_text, moment_in, moment_of, second_of_day, seconds_of}
 use Rattle.aprs_log.proofs.Moments.{moment_in-civil, moment_in-text, moment_text-is, room_most, text-moment_in}
@@ -42,7 +42,7 @@ record Found (form : MomentForm) (m : ℕ) (t : List ℕ) : Type 0 where
   civil : Civil
   millis : ℕ
   real : IsCivil civil
-  below : millis < room_of form
+  below : millis < moments_per_second form
   spelled : t ≡ civil_text form civil millis
   number : m ≡ (86400 * days_of civil + second_of_day civil) * 1000 + millis
 
@@ -90,7 +90,7 @@ moment_of-inside t m e len space =
 
 -- another time of the day of a civil time
 moment_at : (form : MomentForm) (c : Civil) → IsCivil c → (hour minute second n : ℕ)
-    → hour < 24 → minute < 60 → second < 60 → n < room_of form
+    → hour < 24 → minute < 60 → second < 60 → n < moments_per_second form
     → moment_in form (front_of c ++ end_of form hour minute second n)
     ≡ Some ((86400 * days_of c + (hour * 3600 + minute * 60 + second)) * 1000 + n)
 unfolding days_of

@@ -6,7 +6,7 @@ use Rattle.aprs_log.specs.declared.moment_form.MomentForm.{MomentForm}
 use Rattle.aprs_log.specs.declared.moment_form.MomentForm.TheVariants.{Seconds, Millis}
 use Rattle.aprs_log.specs.Places.{near_civil, near_digit, near_millis}
 use Rattle.aprs_log.specs.Clock.{form_size}
-use Rattle.aprs_log.specs.Moment.{Day, IsTextOf, IsWritable, room_of, day_after, moment_text_in}
+use Rattle.aprs_log.specs.Moment.{Day, IsTextOf, IsWritable, moments_per_second, day_after, moment_text_in}
 use Rattle.aprs_log.specs.CivilMoment.{IsCivil, IsMomentTextIn, IsMomentText, civil_after}
 use Rattle.aprs_log.specs.MomentReading.{Civil, civil_at, civil_text, digit_of, is_date, is_time, is_date_and_time, is_real, second_of_day, seconds_of, millis_at, moment_in, form_of_text, moment_of}
 
@@ -65,7 +65,7 @@ civil_at-civil_text form c n = same_civil _ _ _ _ _ _ _ _ _ _ _ _ (pair-four_dig
     (pair-two_digits c.month) (pair-two_digits c.day) (pair-two_digits c.hour)
     (pair-two_digits c.minute) (pair-two_digits c.second)
 
-millis_at-civil_text : (form : MomentForm) (c : Civil) (n : ℕ) → n < room_of form
+millis_at-civil_text : (form : MomentForm) (c : Civil) (n : ℕ) → n < moments_per_second form
     → millis_at form (civil_text form c n) ≡ n
 millis_at-civil_text Seconds c n h = omega arith
 millis_at-civil_text Millis c n h =
@@ -73,7 +73,7 @@ millis_at-civil_text Millis c n h =
     omega (arith, a)
 
 -- the code finds them there
-near_millis-civil_text : (form : MomentForm) (c : Civil) (n : ℕ) → n < room_of form
+near_millis-civil_text : (form : MomentForm) (c : Civil) (n : ℕ) → n < moments_per_second form
     → near_millis form (civil_text form c n) ≡ n
 near_millis-civil_text Seconds c n h = omega arith
 near_millis-civil_text Millis c n h =
@@ -81,7 +81,7 @@ near_millis-civil_text Millis c n h =
     let b = near-two_digits (n % 100) (omega arith) in
     omega (arith, a, b)
 
-pub near_millis-below : (form : MomentForm) (t : List ℕ) → near_millis form t < room_of form
+pub near_millis-below : (form : MomentForm) (t : List ℕ) → near_millis form t < moments_per_second form
 near_millis-below Seconds t = omega arith
 near_millis-below Millis t = omega arith
 
@@ -143,14 +143,14 @@ IsCivil-is_civil c h = grind (arith, nat_tests)
 -- a real time, with milliseconds that the form can write
 record Real (form : MomentForm) (c : Civil) (n : ℕ) : Type 0 where
   civil : IsCivil c
-  below : n < room_of form
+  below : n < moments_per_second form
 
 is_real-Real : (form : MomentForm) (c : Civil) (n : ℕ) → is_real form c n ≡ true → Real form c n
 is_real-Real form c n h =
-    let p = both (is_date_and_time c) (nat_lt n (room_of form)) h in
+    let p = both (is_date_and_time c) (nat_lt n (moments_per_second form)) h in
     record { civil = is_civil-IsCivil c p.0; below = ltb-true _ _ p.1 }
 
-is_real-true : (form : MomentForm) (c : Civil) (n : ℕ) → IsCivil c → n < room_of form
+is_real-true : (form : MomentForm) (c : Civil) (n : ℕ) → IsCivil c → n < moments_per_second form
     → is_real form c n ≡ true
 is_real-true form c n h below = and_from _ _ (IsCivil-is_civil c h) (lt-ltb _ _ below)
 
@@ -214,7 +214,7 @@ if_both true true x p q = refl
 if_both true false x p q = absurd cc
 if_both false b x p q = absurd cc
 
-pub moment_in-civil : (form : MomentForm) (c : Civil) (n : ℕ) → IsCivil c → n < room_of form
+pub moment_in-civil : (form : MomentForm) (c : Civil) (n : ℕ) → IsCivil c → n < moments_per_second form
     → moment_in form (civil_text form c n) ≡ Some (seconds_of c * 1000 + n)
 unfolding moment_in
 moment_in-civil form c n h below =
@@ -294,7 +294,7 @@ one_civil a b h k e =
 split : (a b n k : ℕ) → n < 1000 → k < 1000 → a * 1000 + n ≡ b * 1000 + k → (a ≡ b) × (n ≡ k)
 split a b n k h g e = (omega arith, omega arith)
 
-pub room_most : (form : MomentForm) (n : ℕ) → n < room_of form → n < 1000
+pub room_most : (form : MomentForm) (n : ℕ) → n < moments_per_second form → n < 1000
 room_most Seconds n h = omega arith
 room_most Millis n h = h
 
@@ -343,7 +343,7 @@ moment_in-unfound form t h = let c = civil_at t in let n = millis_at form t in
         ∙ ap (civil_text form c) (near_millis-civil_text form c n real.below) ∙ is
 
 -- the text of a real time
-pub civil_text-moment : (form : MomentForm) (c : Civil) (n m : ℕ) → IsCivil c → n < room_of form
+pub civil_text-moment : (form : MomentForm) (c : Civil) (n m : ℕ) → IsCivil c → n < moments_per_second form
     → seconds_of c * 1000 + n ≡ m → IsMomentTextIn form m (civil_text form c n)
 civil_text-moment form c n m h below e = record {
   civil = c;
@@ -402,7 +402,7 @@ after_seconds m h =
     ∙ sym d.number)) ∙ sum
 
 -- each moment that the form can write has the text that the function gives
-pub moment_text-is : (form : MomentForm) (m : ℕ) → m ≤ 4102444799999 → m % 1000 < room_of form
+pub moment_text-is : (form : MomentForm) (m : ℕ) → m ≤ 4102444799999 → m % 1000 < moments_per_second form
     → IsMomentTextIn form m (moment_text_in form m)
 moment_text-is form m h below =
     subst (IsMomentTextIn form m) (sym (same_text form m))
@@ -415,9 +415,9 @@ moment_text-is form m h below =
 
 -- a form's text is of a moment that the form can write
 pub millis_kept : (form : MomentForm) (m : ℕ) (t : List ℕ) → IsMomentTextIn form m t
-    → m % 1000 < room_of form
+    → m % 1000 < moments_per_second form
 millis_kept form m t h =
-    left (seconds_of h.civil) h.millis (room_of form) (room_most form h.millis h.below) h.below
+    left (seconds_of h.civil) h.millis (moments_per_second form) (room_most form h.millis h.below) h.below
     (number-back m h.civil h.millis h.real h.number) where
       left : (s n r : ℕ) → n < 1000 → n < r → m ≡ s * 1000 + n → m % 1000 < r
       left s n r a b e = omega arith

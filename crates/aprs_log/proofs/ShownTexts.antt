@@ -2,7 +2,7 @@
 use Rattle.aprs_log.proofs.Common.{◌≡◌, ℕ, ◌+◌, ◌/◌, ◌%◌, ◌<◌, ◌++◌, ◌∷◌, [], List, true, arith, sym, subst, list_all, IsAscii, and_parts, nat_tests}
 use Rattle.std.proofs.lemmas.Str.Ascii.{IsAscii-nil, IsAscii-cons}
 use Rattle.aprs_log.specs.CivilMoment.{IsMomentText}
-use Rattle.aprs_log.specs.Moment.{two_digits, fraction_text, room_of}
+use Rattle.aprs_log.specs.Moment.{two_digits, fraction_text, moments_per_second}
 use Rattle.aprs_log.specs.MomentReading.{Civil, civil_text}
 use Rattle.aprs_log.specs.Receiver.{IsName, is_name_byte}
 use Rattle.aprs_log.specs.declared.moment_form.MomentForm.{MomentForm}
@@ -17,7 +17,7 @@ marked-ascii : (b n : ℕ) (rest : List ℕ) → b < 128 → n < 100 → IsAscii
     → IsAscii (b ∷ two_digits n ++ rest)
 marked-ascii b n rest h k r = IsAscii-cons b (two_digits n ++ rest) h (two-ascii n rest k r)
 
-fraction-ascii : (form : MomentForm) (n : ℕ) → n < room_of form
+fraction-ascii : (form : MomentForm) (n : ℕ) → n < moments_per_second form
     → IsAscii (fraction_text form n ++ 90 ∷ [])
 fraction-ascii Seconds n h = IsAscii-cons 90 [] (omega arith) IsAscii-nil
 fraction-ascii Millis n h =
@@ -27,7 +27,7 @@ fraction-ascii Millis n h =
     IsAscii-cons 46 ((48 + n / 100) ∷ digits) (omega arith)
     (IsAscii-cons (48 + n / 100) digits (omega arith) low)
 
-civil-ascii : (form : MomentForm) (c : Civil) (n : ℕ) → FitsText c → n < room_of form
+civil-ascii : (form : MomentForm) (c : Civil) (n : ℕ) → FitsText c → n < moments_per_second form
     → IsAscii (civil_text form c n)
 civil-ascii form c n h below =
     let fraction = fraction_text form n ++ 90 ∷ [] in

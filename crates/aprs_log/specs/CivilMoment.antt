@@ -1,7 +1,7 @@
 -- Moments as civil times, by the calendar's own count of days. No public clause cites this module.
 use Rattle.std.specs.Prelude.{◌≡◌, ℕ, ◌/◌, ◌%◌, ◌<◌, ◌≤◌, List, pos, ◌+ℤ◌, ◌*ℤ◌}
 use Rattle.jiff_core.specs.Calendar.{IsDate, days_from_civil}
-use Rattle.aprs_log.specs.Moment.{day_after, room_of}
+use Rattle.aprs_log.specs.Moment.{day_after, moments_per_second}
 use Rattle.aprs_log.specs.MomentReading.{Civil, civil_text, second_of_day}
 use Rattle.aprs_log.specs.declared.moment_form.MomentForm.{MomentForm}
 
@@ -24,7 +24,7 @@ pub record IsMomentTextIn (form : MomentForm) (m : ℕ) (text : List ℕ) : Type
   pub civil : Civil
   pub millis : ℕ
   pub real : IsCivil civil
-  pub below : millis < room_of form
+  pub below : millis < moments_per_second form
   pub number : pos m ≡ (((days_from_civil (pos civil.year) civil.month civil.day *ℤ pos 86400)
       +ℤ pos (second_of_day civil)) *ℤ pos 1000) +ℤ pos millis
   pub spelled : text ≡ civil_text form civil millis

@@ -3,7 +3,7 @@ use Rattle.std.specs.Prelude.{◌≡◌, ℕ, ◌+◌, ◌*◌, ◌<◌, ◌==�
 use Rattle.aprs_io.specs.Octet.{octet}
 use Rattle.aprs_log.specs.declared.moment_form.MomentForm.{MomentForm}
 use Rattle.aprs_log.specs.declared.moment_form.MomentForm.TheVariants.{Seconds, Millis}
-use Rattle.aprs_log.specs.Moment.{two_digits, fraction_text, room_of}
+use Rattle.aprs_log.specs.Moment.{two_digits, fraction_text, moments_per_second}
 use Rattle.aprs_log.specs.Sizes.{seconds_size}
 
 -- The bytes of a moment to the millisecond: 2026-11-26T18:00:00.000Z.
@@ -37,7 +37,7 @@ pub record SecondText (n : ℕ) (text : List ℕ) : Type 0 where
 
 -- `text` is what follows the seconds, in this form, at millisecond n of a second.
 pub record IsFractionText (form : MomentForm) (n : ℕ) (text : List ℕ) : Type 0 where
-  pub below : n < room_of form
+  pub below : n < moments_per_second form
   pub spelled : text ≡ fraction_text form n ++ octet "Z" ∷ []
 
 -- The form of a text whose seconds these bytes follow, by their number alone. One byte is the Z,

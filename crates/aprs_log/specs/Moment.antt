@@ -70,15 +70,15 @@ abbrev pub moment_text : ℕ → List ℕ
 moment_text m = moment_text_in Millis m
 
 -- How many moments of one second a form can write: one, or 1,000.
-abbrev pub room_of : MomentForm → ℕ
-room_of Seconds = 1
-room_of Millis = 1000
+abbrev pub moments_per_second : MomentForm → ℕ
+moments_per_second Seconds = 1
+moments_per_second Millis = 1000
 
 -- The moment is before the year 2100, and this form can write it: a form to the second can only
 -- write whole seconds.
 pub record IsWritable (form : MomentForm) (m : ℕ) : Type 0 where
   pub in_range : m ≤ last_milli
-  pub whole : m % 1000 < room_of form
+  pub whole : m % 1000 < moments_per_second form
 
 -- The text is that of the moment in a form in which it can be written.
 abbrev pub IsTextOf : ℕ → List ℕ → Type 0

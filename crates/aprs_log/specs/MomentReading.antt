@@ -4,7 +4,7 @@ use Rattle.std.specs.Prelude.{ℕ, ◌+◌, ◌-◌, ◌*◌, ◌==◌, ◌&&◌
 use Rattle.std.specs.Str.{bytes_eq}
 use Rattle.jiff_core.specs.Calendar.{days_from_civil, days_in_month}
 use Rattle.aprs_io.specs.Octet.{octet}
-use Rattle.aprs_log.specs.Moment.{two_digits, four_digits, fraction_text, room_of}
+use Rattle.aprs_log.specs.Moment.{two_digits, four_digits, fraction_text, moments_per_second}
 use Rattle.aprs_log.specs.Sizes.{seconds_size}
 use Rattle.aprs_log.specs.declared.moment_form.MomentForm.{MomentForm}
 use Rattle.aprs_log.specs.declared.moment_form.MomentForm.TheVariants.{Seconds, Millis}
@@ -78,7 +78,7 @@ millis_at Millis text = 100 * digit_of (slice_index text 20) + pair_at text 21
 
 -- Whether this is a civil time, and the form can write these milliseconds.
 abbrev pub is_real : MomentForm → Civil → ℕ → Bool
-is_real form civil n = is_date_and_time civil && nat_lt n (room_of form)
+is_real form civil n = is_date_and_time civil && nat_lt n (moments_per_second form)
 
 -- The moment of a text in a form: that of the civil time and the milliseconds at their places,
 -- where these are real and have this text.

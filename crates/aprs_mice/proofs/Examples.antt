@@ -104,7 +104,7 @@ anything lat lon ambiguity speed course message table code is_current comment = 
 -- what the steps of reading compute with
 abbrev reader : List ℕ → List ℕ → Option MicEValue
 unfolding mic_e_or_none destination_of position_mark_of ambiguity_of_spaces longitude_of_octets motion_of
-reader letters info = mic_e_or_none letters info
+reader characters info = mic_e_or_none characters info
 
 all_read : (rows : List Row) →
     map (λ (r : Row). mic_e_or_none r.0 r.1) rows ≡ map (λ (r : Row). Some r.2) rows → Reads rows

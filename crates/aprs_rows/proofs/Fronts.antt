@@ -10,7 +10,7 @@ use Rattle.aprs_transmissions.specs.Sound.{AreSoundRows}
 use Rattle.aprs_transmissions.proofs.Books.{row_total}
 use Rattle.aprs_rows.specs.Fronts.{Ahead, rows_ahead, all_ahead, ahead_cmp, fronts, AreRuns, IsAfterTop, IsFirst, IsRun, IsTakenOut, PutsBack, SettlesFirst, TakesFirst}
 use Rattle.aprs_rows.specs.Packed.{row_room, room_of}
-use Rattle.aprs_rows.specs.Told.{IsTold}
+use Rattle.aprs_rows.specs.Told.{HasNamesAndFrame}
 use Rattle.aprs_rows.proofs.Orders.{not_after, same_members}
 
 -- ---- the rows of all
@@ -160,12 +160,12 @@ sound_ahead (a ∷ gs) r x h = elim (in_either x (rows_ahead a) (all_ahead gs) h
   | inr k ↦ sound_ahead gs r.1 x k
 ]
 
-pub told_ahead : (gs : List Ahead) → AreRuns gs → AllByRecursion IsTold (all_ahead gs)
+pub told_ahead : (gs : List Ahead) → AreRuns gs → AllByRecursion HasNamesAndFrame (all_ahead gs)
 told_ahead [] r = tt
 told_ahead (a ∷ gs) r = both (rows_ahead a) r.0.told (told_ahead gs r.1)
   where
-    both : (rows : List Row) → AllByRecursion IsTold rows → AllByRecursion IsTold (all_ahead gs)
-        → AllByRecursion IsTold (rows ++ all_ahead gs)
+    both : (rows : List Row) → AllByRecursion HasNamesAndFrame rows → AllByRecursion HasNamesAndFrame (all_ahead gs)
+        → AllByRecursion HasNamesAndFrame (rows ++ all_ahead gs)
     both [] h k = k
     both (x ∷ rows) h k = (h.0, both rows h.1 k)
 

@@ -4,7 +4,7 @@ use Rattle.std.proofs.lemmas.List.Sums.{sum_by_push, sum_by-cons}
 use Rattle.aprs_transmissions.specs.Sound.{AreSoundRows}
 use Rattle.aprs_rows.specs.Names.{row_of_text}
 use Rattle.aprs_rows.specs.Packed.{AreMarks, AreShort, IsMarked, IsShort, Notes, mark_row, mark_size, row_bytes, row_room, room_of, rows_of_marks}
-use Rattle.aprs_rows.specs.Told.{IsTold}
+use Rattle.aprs_rows.specs.Told.{HasNamesAndFrame}
 use Rattle.aprs_rows.specs.declared.store.mark.Mark.{Mark}
 use Rattle.aprs_rows.proofs.NameTexts.{some_letters}
 use Rattle.aprs_rows.proofs.Places.{as_many, drop_front, take_front}
@@ -27,7 +27,7 @@ mark_row_of m a b c k n =
 
 pub notes : (m : Mark) (x : Row) (a b c : List ℕ) → row_of_text m.first m.last a b c ≡ x
     → m.receivers ≡ length a → m.receiver ≡ length b → m.frame ≡ length c
-    → m.receivers < 4294967296 → m.info_at ≡ field_len c + 2 → IsSoundRow x → IsTold (row_of_text m.first m.last a b c) → Notes m x
+    → m.receivers < 4294967296 → m.info_at ≡ field_len c + 2 → IsSoundRow x → HasNamesAndFrame (row_of_text m.first m.last a b c) → Notes m x
 notes m x a b c v k n f short i s h =
     let text : row_bytes x ≡ a ++ (b ++ c) =
     ap row_bytes (sym v) ∙ ap (λ t. t ++ (b ++ c)) (join_with_byte-slice_split 44 a) in
@@ -38,7 +38,7 @@ notes m x a b c v k n f short i s h =
         size = omega (arith, k, n, f, length-append a (b ++ c), length-append b c);
         short = short;
         sound = subst IsSoundRow (sym (is ∙ v)) s;
-        told = subst IsTold (sym is) h;
+        told = subst HasNamesAndFrame (sym is) h;
         info = subst (λ fs. m.info_at ≡ field_len fs + 2) frame i;
       });
       is = ap (mark_row m) text ∙ is ∙ v;
@@ -110,7 +110,7 @@ marks_sound (m ∷ ms) bytes a x (inl e) = subst (λ (y : Row). IsSoundRow y) e 
 marks_sound (m ∷ ms) bytes a x (inr h) = marks_sound ms (drop (mark_size m) bytes) a.1 x h
 
 pub marks_told : (ms : List Mark) (bytes : List ℕ) → AreMarks ms bytes
-    → AllByRecursion IsTold (rows_of_marks ms bytes)
+    → AllByRecursion HasNamesAndFrame (rows_of_marks ms bytes)
 marks_told [] bytes a = tt
 marks_told (m ∷ ms) bytes a = (a.0.told, marks_told ms (drop (mark_size m) bytes) a.1)
 

@@ -13,7 +13,7 @@ use Rattle.aprs_transmissions.specs.Order.{IsUpTo}
 use Rattle.aprs_transmissions.specs.Row.{Row, row_cmp}
 use Rattle.aprs_transmissions.specs.Sound.{AreSoundRows}
 use Rattle.aprs_rows.specs.Packed.{room_of}
-use Rattle.aprs_rows.specs.Told.{IsTold}
+use Rattle.aprs_rows.specs.Told.{HasNamesAndFrame}
 
 -- The first row, and the rows after it.
 pub record Ahead : Type 0 where
@@ -36,7 +36,7 @@ ahead_cmp = flip_args (on (λ a. a.first) row_cmp)
 pub record IsRun (rows : List Row) : Type 0 where
   pub ordered : AreInOrder rows
   pub each : AreSoundRows rows
-  pub told : AllByRecursion IsTold rows
+  pub told : AllByRecursion HasNamesAndFrame rows
 
 -- The rows of each are a run.
 abbrev pub AreRuns : List Ahead → Type 0

@@ -6,7 +6,7 @@ use Rattle.aprs_transmissions.specs.Lists.{◌∈◌}
 use Rattle.aprs_transmissions.specs.Row.{Row}
 use Rattle.aprs_transmissions.specs.Sound.{IsSoundRow}
 use Rattle.aprs_rows.specs.Names.{row_of_text}
-use Rattle.aprs_rows.specs.Told.{IsTold}
+use Rattle.aprs_rows.specs.Told.{HasNamesAndFrame}
 use Rattle.aprs_rows.specs.declared.store.mark.Mark.{Mark}
 
 -- The bytes of a row: the names of its receivers with commas between, the name of the greatest
@@ -30,7 +30,7 @@ pub record IsMarked (m : Mark) (bytes : List ℕ) : Type 0 where
   pub size : length bytes ≡ mark_size m
   pub short : m.receivers < 4294967296
   pub sound : IsSoundRow (mark_row m bytes)
-  pub told : IsTold (mark_row m bytes)
+  pub told : HasNamesAndFrame (mark_row m bytes)
   pub info : m.info_at ≡ field_len (mark_row m bytes).greatest.frame + 2
 
 -- The mark is that of the row.

@@ -6,7 +6,7 @@ use Rattle.aprs_log.specs.Receiver.{IsName}
 use Rattle.aprs_transmissions.specs.Row.{Row}
 
 -- The receivers have names, and so has that of the greatest reception, whose frame is a UI frame.
-pub record IsTold (x : Row) : Type 0 where
+pub record HasNamesAndFrame (x : Row) : Type 0 where
   pub names_are : All IsName x.receivers
   pub name_is : IsName x.greatest.receiver
   pub frame_is : FrameOf (parts_of x.greatest.frame) x.greatest.frame

@@ -1,4 +1,10 @@
 //! The fold of several book files, and their check alone.
+//!
+//! Words of the contracts here:
+//! - `gots` is what was got of each input (`OfEach`). `GiveUnion`: a union of sets that they stand
+//!   for. `IsToldOf`: there is such a set, and of each one this is the text.
+//! - `WritesFor`: that text went out, or a prefix of it at `Write`.
+//! - `EndsEarly`: that input is refused for the fault, and a part of a book's text was written.
 ghost use Rattle.std.specs.Prelude.{◌≡◌, ◌≢◌, ◌≤◌, IfErr, OnOk};
 ghost use Rattle.aprs_bookfile.specs.RowReader.{most_stream};
 ghost use Rattle.aprs_fold.specs.Inputs.{AreAsked, IsRefused};

@@ -140,11 +140,11 @@ AreAnswers rows entries = IsCollected answer_of GivesAnswer IsGreatestAnswer row
 
 -- ---- rows of the listing
 
--- A callsign of these letters and this SSID, where both were read without a fault.
+-- A callsign of these characters and this SSID, where both were read without a fault.
 abbrev pub call_when : Option CallFault → List ℕ → Option ℕ → Option Call
-call_when (Some fault) letters ssid = None
-call_when None letters None = None
-call_when None letters (Some ssid) = Some (record { characters = letters; ssid = ssid })
+call_when (Some fault) characters ssid = None
+call_when None characters None = None
+call_when None characters (Some ssid) = Some (record { characters = characters; ssid = ssid })
 
 -- The callsign whose text these bytes are, or none.
 abbrev pub spelled_call : List ℕ → Option Call

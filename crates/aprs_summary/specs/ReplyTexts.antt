@@ -30,7 +30,7 @@ number_at (x ∷ []) = None
 number_at (x ∷ y ∷ []) = None
 number_at (x ∷ y ∷ z ∷ number) =
     value_when (x == octet "a" && y == octet "c" && z == octet "k"
-        && is_message_number number) number
+    && is_message_number number) number
 
 -- The number of both bytes x and y, where they are letters or digits. A closing brace and at most
 -- two letters or digits have to be all that follow them.
@@ -46,7 +46,7 @@ closed_number [] = None
 closed_number (x ∷ []) = None
 closed_number (x ∷ y ∷ rest) = option_or
     (value_when (y == octet "}" && is_message_number (x ∷ [])
-        && is_number_or_nothing rest) (x ∷ []))
+    && is_number_or_nothing rest) (x ∷ []))
     (number_of_two x y rest)
 
 -- The number that a text has between braces, or none. At most two letters or digits, and nothing

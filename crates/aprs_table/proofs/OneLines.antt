@@ -19,7 +19,7 @@ use Rattle.aprs_table.specs.SpacedLine.{after_space, ambiguity_text, degrees_tex
 use Rattle.aprs_table.specs.Cells.{stamp_field}
 use Rattle.aprs_table.proofs.Frees.{AreFree, Free, ◌&◌, are_append, free_append, free_byte, free_call, free_decimal, free_flat, free_id, free_moment, free_names, free_says, free_shown, free_signed, free_stamp, free_via, free_word, high}
 use Rattle.aprs_table.proofs.Shapes.{optional_stamp, state_free, status_stamp, text_id}
-use Rattle.aprs_rows.specs.Told.{IsTold}
+use Rattle.aprs_rows.specs.Told.{HasNamesAndFrame}
 use Rattle.aprs_table.specs.OneLine.{HasOneLineEach}
 
 no_lf : (text : List ℕ) → Free text → AllByRecursion (λ b. b ≢ 10) text
@@ -136,7 +136,7 @@ told head h p are (status stamp text) is =
     (are_append head _ h (stamp_free stamp (status_stamp stamp text p.info is) & tt))
 told head h p are raw is = other head h p are (mic_e_or_none p.destination.call.characters p.info)
 
-row_line : (x : Row) → IsTold x → Line (history_line x)
+row_line : (x : Row) → HasNamesAndFrame x → Line (history_line x)
 row_line x h =
     let p = parts_of x.greatest.frame in
     let are = h.frame_is.parts in
@@ -145,7 +145,7 @@ row_line x h =
     & free_call p.source.call are.source.call & via_free p.digipeaters are.digipeaters & tt)
     p are (reading_of p.info) (reads_as p.info)
 
-one_line_each : (rows : List Row) → AllByRecursion IsTold rows → HasOneLineEach rows
+one_line_each : (rows : List Row) → AllByRecursion HasNamesAndFrame rows → HasOneLineEach rows
 one_line_each [] h = ([], refl, All-from_recursion HasNoLf [] tt, refl)
 one_line_each (x ∷ rows) h =
     let line = row_line x h.0 in
@@ -159,5 +159,5 @@ one_line_each (x ∷ rows) h =
       ap (λ l. l ++ history_text rows) line.is ∙ ap (λ l. (line.body ++ 10 ∷ []) ++ l) more.3,
     )
 
-pub lines_of_told : (rows : List Row) → All IsTold rows → HasOneLineEach rows
-lines_of_told rows h = one_line_each rows (recursion_from_All IsTold rows h)
+pub lines_of_told : (rows : List Row) → All HasNamesAndFrame rows → HasOneLineEach rows
+lines_of_told rows h = one_line_each rows (recursion_from_All HasNamesAndFrame rows h)

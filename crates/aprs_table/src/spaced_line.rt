@@ -1,4 +1,8 @@
 //! The lines of histories and listings on their way out.
+//!
+//! Words of the contracts here:
+//! - As it is shown: a backslash and each byte outside 20 to 7E stand as a backslash, x and two
+//!   hexadecimal digits.
 ghost use Rattle.std.specs.Prelude.{◌++◌, codes, map};
 ghost use Rattle.std.specs.List.{flat_map};
 ghost use Rattle.aprs_io.specs.Outlet.{Puts};

@@ -30,7 +30,7 @@ abbrev pub insert_heard : ℕ → Received → List Row → List Row
 insert_heard gap s [] = single s ∷ []
 insert_heard gap s (r ∷ rows) =
     choose (compare_near_to gap r s) (r ∷ insert_heard gap s rows)
-        (bridge_row gap s (grow_row r s) rows)
+    (bridge_row gap s (grow_row r s) rows)
     (single s ∷ r ∷ rows)
 
 -- Exactly one row is near to s, and it lists the receiver of s: what s changes fits in that row.

@@ -48,7 +48,7 @@ pub record IsUnited {X : Type 0} (cmp : X → X → Ordering) (a b c : List X) :
   pub ascending : Ordered (IsBelow cmp) c
   pub members : (x : X) → (x ∈ c) ↔ ((x ∈ a) ⊎ (x ∈ b))
 
--- c is the book of the witnesses of a and b.
+-- c is the book of the witnesses of a and b: of receptions that, if heard, give just these rows.
 abbrev pub Joined : ℕ → List Row → List Row → List Row → Type 0
 Joined gap a b c = BookOf gap (witnesses a ++ witnesses b) c
 

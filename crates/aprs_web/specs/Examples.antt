@@ -11,9 +11,12 @@ use Rattle.aprs_web.specs.Answer.{Outcome, status_of_outcome, number_at_fault, l
 -- What an answer tells of an outcome: the status, the number and the line of the input at fault,
 -- and the name of its fault.
 abbrev pub told : Outcome → ℕ × ℕ × ℕ × List ℕ
-told outcome =
-    (status_of_outcome outcome, number_at_fault outcome,
-        line_at_fault outcome, name_at_fault outcome)
+told outcome = (
+  status_of_outcome outcome,
+  number_at_fault outcome,
+  line_at_fault outcome,
+  name_at_fault outcome,
+)
 
 -- The input of this number, from 0, is at fault.
 abbrev pub at_input : ℕ → InputFault → Outcome

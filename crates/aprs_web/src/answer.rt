@@ -56,7 +56,7 @@ pub(crate) fn answer_of(
     if let Err(fault) = outcome {
         answer.status = u64::from(status_of(fault));
         if let RunFault::Input { index, fault } = fault {
-            let (line, cause) = place_of(fault);
+            let (line, cause) = line_and_name_of(fault);
             answer.input = *index as u64;
             answer.line = line;
             answer.named = put_first(name, cause.as_bytes());
@@ -66,7 +66,7 @@ pub(crate) fn answer_of(
 }
 
 /// The line that an input's fault names, 0 where it names none, and the fault's name.
-fn place_of(fault: &InputFault) -> (u64, &'static str)
+fn line_and_name_of(fault: &InputFault) -> (u64, &'static str)
     ensures { (result.0 ≡ line_of_input fault.now) × (result.1.now ≡ name_of_input fault.now) }
 {
     match fault {

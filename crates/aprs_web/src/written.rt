@@ -102,7 +102,7 @@ pub(crate) fn history<A: Allocator + Copy>(
     (outcome, w.into_inner())
 }
 
-/// This table of the inputs, and what it wrote.
+/// How the run of this table ended, and what it wrote.
 pub(crate) fn tabulate<A: Allocator + Copy>(
     alloc: A,
     table: Table,

@@ -1,6 +1,6 @@
 //! Worked examples of course and speed, and near misses.
 ghost use Rattle.std.specs.Prelude.{codes, Some, None, true, false, pos, ℕ, List, ◌≡◌, ◌∷◌, ◌++◌, []};
-ghost use Rattle.aprs_details.specs.Compressed.{knots_of, course_of_cst, speed_of_cst, is_gga, agrees_from, ranges_from};
+ghost use Rattle.aprs_details.specs.Compressed.{knots_of, course_of_cst, speed_of_cst, is_gga, has_speeds_from, has_ranges_from};
 ghost use Rattle.aprs_details.specs.Examples.{Gives, of_car, moves, of_compressed_car, says, bytes_with, numbers_from, bytes_where};
 ghost use Rattle.aprs_details.specs.Extension.{course_of, wind_direction_of};
 
@@ -118,7 +118,7 @@ pub fn compressed_courses_have_a_range()
 
 /// A table of speeds or of ranges has that of each number, from the first one on.
 pub fn tables_have_each_number()
-    ensures speeds { Gives (λ (x : ℕ × List ℕ). agrees_from x.0 x.1) (
+    ensures speeds { Gives (λ (x : ℕ × List ℕ). has_speeds_from x.0 x.1) (
         ((0, []), true) ∷  -- nothing
         ((4, 0 ∷ 0 ∷ 1 ∷ 1 ∷ []), true) ∷  -- 0.36, 0.47, 0.59 and 0.71
         ((4, 0 ∷ 0 ∷ 1 ∷ 0 ∷ []), false) ∷  -- another last one
@@ -128,7 +128,7 @@ pub fn tables_have_each_number()
         ((47, 35 ∷ []), false) ∷  -- one less
         ((47, 37 ∷ []), false) ∷ [])  -- one more
     }
-    ensures ranges { Gives (λ (x : ℕ × List ℕ). ranges_from x.0 x.1) (
+    ensures ranges { Gives (λ (x : ℕ × List ℕ). has_ranges_from x.0 x.1) (
         ((0, []), true) ∷  -- nothing
         ((0, 200 ∷ 216 ∷ 233 ∷ 252 ∷ []), true) ∷  -- 2 miles, 2.16, 2.3328 and 2.5194
         ((0, 200 ∷ 216 ∷ 233 ∷ 251 ∷ []), false) ∷  -- another last one

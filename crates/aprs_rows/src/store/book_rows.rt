@@ -1,4 +1,9 @@
 //! The rows of a book, one after another.
+//!
+//! Words of the contracts here:
+//! - `HasNamesAndFrame`: a row's receivers have names, and its greatest reception has a name and a
+//!   UI frame.
+//! - `IsSoundBook`: the gap is one that books have, and the rows are sound under it.
 ghost use Rattle.std.specs.Prelude.{◌≡◌, ◌<◌, ◌≤◌, [], ◌∷◌, min, length, All, IfOk, IfSome, IfNone, OnErr};
 ghost use Rattle.std.specs.Iterator.{YieldsFirst, item_count};
 ghost use Rattle.aprs_transmissions.specs.BookValue.{IsSoundBook};
@@ -7,7 +12,7 @@ ghost use Rattle.aprs_transmissions.specs.JoinRow.{greater};
 ghost use Rattle.aprs_transmissions.specs.Sound.{AreSoundRows};
 ghost use Rattle.aprs_transmissions.specs.Together.{book_together};
 ghost use Rattle.aprs_rows.specs.Packed.{room_of};
-ghost use Rattle.aprs_rows.specs.Told.{IsTold};
+ghost use Rattle.aprs_rows.specs.Told.{HasNamesAndFrame};
 
 use crate::Memory;
 use crate::row::name_room::NameRoom;
@@ -64,7 +69,7 @@ impl<'a, A: Allocator + Copy> BookRows<'a, A> {
     pub fn gap(&self) -> Gap
         ensures value { result ≡ self.now.gap }
         ensures sound { IsSoundBook self.now }
-        ensures told { All IsTold self.now.rows }
+        ensures told { All HasNamesAndFrame self.now.rows }
     {
         self.merger.told();
         self.gap

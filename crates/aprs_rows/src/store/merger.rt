@@ -4,7 +4,7 @@
 //! - A front is the next row of one list, and the rows after it. `fronts` are the one that stands
 //!   beside the heap, and those in it.
 //! - `IsRun`: rows in order, each sound by itself, with names of receivers and a UI frame
-//!   (`IsTold`).
+//!   (`HasNamesAndFrame`).
 //! - `IsTakenOut`: this row was taken out and the others remain, none of which it comes after.
 //! - `IsByTest`: whether a row is near to that of this first moment and the greatest reception of
 //!   `latest`. `NoneIsNear`: the first row in order isn't, or there is none.
@@ -19,7 +19,7 @@ ghost use Rattle.aprs_transmissions.specs.Lists.{SameMembers};
 ghost use Rattle.aprs_transmissions.specs.Sound.{AreSoundRows};
 ghost use Rattle.aprs_rows.specs.Fronts.{ahead_cmp, fronts, IsAfterTop, IsByTest, IsRun, IsTakenOut, NoneIsNear, SettlesFirst, TakesFirst};
 ghost use Rattle.aprs_rows.specs.Packed.{room_of};
-ghost use Rattle.aprs_rows.specs.Told.{IsTold};
+ghost use Rattle.aprs_rows.specs.Told.{HasNamesAndFrame};
 
 use crate::Memory;
 use crate::row::near::are_near;
@@ -86,7 +86,7 @@ impl<'a, A: Allocator + Copy> Merger<'a, A> {
     /// Each row that is still to come has names of receivers and a UI frame. Does nothing: who
     /// calls it may then rely on that.
     pub(crate) fn told(&self)
-        ensures { All IsTold self.now }
+        ensures { All HasNamesAndFrame self.now }
     {
         let _others = &self.others;
     }

@@ -7,7 +7,7 @@ ghost use Rattle.aprs_transmissions.specs.JoinRow.{single};
 ghost use Rattle.aprs_transmissions.specs.Lists.{SameMembers};
 ghost use Rattle.aprs_transmissions.specs.Sound.{AreSoundRows, IsSoundRow};
 ghost use Rattle.aprs_rows.specs.Packed.{AreShort, room_of};
-ghost use Rattle.aprs_rows.specs.Told.{IsTold};
+ghost use Rattle.aprs_rows.specs.Told.{HasNamesAndFrame};
 
 use crate::Memory;
 use crate::growth::{put, reserve};
@@ -145,7 +145,7 @@ impl<A: Allocator + Copy> PackedRows<A> {
     pub(crate) fn rows(&self) -> Unpacked<'_>
         ensures value { result ≡ self.now }
         ensures sound { AreSoundRows self.now }
-        ensures told { AllByRecursion IsTold self.now }
+        ensures told { AllByRecursion HasNamesAndFrame self.now }
         ensures short { AreShort self.now }
     {
         Unpacked {

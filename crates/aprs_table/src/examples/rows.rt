@@ -44,8 +44,8 @@ pub fn frames_that_are_passed_on_have_a_gate()
         (codes "destination", codes "APRS") ∷ (codes "text", codes "}A>B") ∷ []) }
 {}
 
-/// A Mic-E position that is passed on is told by the letters of its destination, which are six. The
-/// SSID there isn't looked at.
+/// A Mic-E position that is passed on is told by the characters of its destination, which are six.
+/// The SSID there isn't looked at.
 pub fn mic_e_positions_are_passed_on()
     ensures direct { Passes (codes "}WU2Z>S32UVT:`(_fn\"Oj/") (
         (codes "kind", codes "mic-e") ∷ (codes "source", codes "WU2Z") ∷

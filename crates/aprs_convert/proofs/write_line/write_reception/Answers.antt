@@ -1,7 +1,7 @@
 use Rattle.aprs_convert.proofs.Common.{◌≡◌, [], ◌∷◌, ◌++◌, inl, inr, ap, sym, ◌∙◌, Sends-is, written_line}
 use Rattle.aprs_ax25.specs.FrameFault.{parts_of}
 use Rattle.aprs_kiss.specs.Spelling.{kiss_text}
-use Rattle.aprs_convert.specs.Monitor.{monitor_text, kind_text}
+use Rattle.aprs_convert.specs.Monitor.{monitor_text, kind_and_monitor_text}
 use Rattle.aprs_convert.specs.Conversion.{reception_text}
 use Rattle.aprs_convert.specs.declared.form.Form.{Form}
 use Rattle.aprs_convert.proofs.write_line.write_reception.Goals as goal
@@ -17,7 +17,7 @@ pub returns-in-Kind : goal.returns-in-Kind
 returns-in-Kind g c =
     let x = c.args.reception.now in
     Sends-is c.write_kind_line.ensures
-    (ap (λ frame. kind_text (parts_of frame) ++ 10 ∷ []) c.frame-in-Kind.ensures
+    (ap (λ frame. kind_and_monitor_text (parts_of frame) ++ 10 ∷ []) c.frame-in-Kind.ensures
     ∙ sym (ap (λ (f : Form). reception_text f x) c.in-Kind.is))
 
 pub returns-in-Kiss : goal.returns-in-Kiss

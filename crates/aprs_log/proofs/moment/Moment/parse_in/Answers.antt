@@ -1,5 +1,5 @@
 use Rattle.aprs_log.proofs.Common.{◌≡◌, ◌+◌, ◌*◌, ◌<◌, ℕ, None, Some, ap, sym, subst, ◌∙◌}
-use Rattle.aprs_log.specs.Moment.{room_of}
+use Rattle.aprs_log.specs.Moment.{moments_per_second}
 use Rattle.aprs_log.specs.MomentReading.{civil_text, moment_in, seconds_of}
 use Rattle.aprs_log.specs.Places.{near_civil}
 use Rattle.aprs_log.proofs.Moments.{moment_in-civil, moment_in-unfound, moment_in-unreal, near_millis-below, IsExactIn}
@@ -12,7 +12,7 @@ returns-in-Some-seconds c =
     let civil = ap (λ p. p.0) read.1 in
     let millis = ap (λ p. p.1) read.1 in
     let real = c.in-Some-seconds.ensures.value in
-    let below = subst (λ (n : ℕ). n < room_of form) (sym millis)
+    let below = subst (λ (n : ℕ). n < moments_per_second form) (sym millis)
     (near_millis-below form c.args.text.now) in
     let value : Some (c.in-Some-seconds.seconds * 1000 + c.from.result)
     ≡ moment_in form c.args.text.now
