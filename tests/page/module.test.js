@@ -46,7 +46,7 @@ test("several inputs are one book, under the gap that is asked for", { skip }, (
   assert.equal(done("merge", 30, text, "", RX1).text, text);
   assert.equal(done("widen", 60, text).text.split("\n")[0], "APRSBOOK 3 60");
 });
-test("a book's text with any byte in any place's stead is refused, or is that of its book", { skip },
+test("a text with any byte at any place is refused, or is that of its book", { skip },
   () => {
     const one = "APRSBOOK 3 30\nT 2024-05-01T12:00:00.000Z 2024-05-01T12:00:00.000Z RX1 RX1 "
       + "82a0a4a64040e09c60868298986f03f03e4869\nEND 1\n";
