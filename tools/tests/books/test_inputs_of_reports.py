@@ -190,7 +190,8 @@ def test_a_full_disk_is_no_fault_of_what_is_unpacked(tmp_path: pathlib.Path) -> 
 
 
 KIND = re.compile(r"[^.].*\.(log|book)(?:\.gz|\.xz|\.bz2|\.zst)?", re.DOTALL)
-PARTS = st.sampled_from(["a", ".", ".log", ".book", ".gz", ".xz", ".zst", ".LOG", "-", "\n", "2024"])
+PARTS = st.sampled_from(
+    ["a", ".", ".log", ".book", ".gz", ".xz", ".zst", ".LOG", "-", "\n", "2024"])
 
 
 @given(st.lists(PARTS, max_size=5).map("".join))

@@ -231,7 +231,8 @@ def test_the_roster_is_no_output(programs: Programs, tmp_path: pathlib.Path) -> 
 @pytest.mark.parametrize(("text", "wanted"), [
     ("Q1A", True), ("Q1A-7", True), ("q1abcdefg-15", True), ("Q1A-AB", True), ("1", True),
     ("", False), ("-7", False), ("Q1A-", False), ("Q1A-157", False), ("Q1ABCDEFGH", False),
-    ("Q1A-1-2", False), ("Q1\u00c4", False), ("Q1\u0661", False), ("Q1 A", False), ("Q1A\n", False)])
+    ("Q1A-1-2", False), ("Q1\u00c4", False), ("Q1\u0661", False), ("Q1 A", False),
+    ("Q1A\n", False)])
 def test_what_is_a_call(text: str, wanted: bool) -> None:
     assert last_heard.is_call(text) == wanted
 
