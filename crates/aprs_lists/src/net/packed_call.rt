@@ -42,6 +42,7 @@ impl PackedCall {
     pub fn of(call: &Callsign) -> PackedCall
         ensures { result ≡ call.now }
     {
+        // What a text says of its callsign: 1 to 6 letters and digits, and an SSID below 16.
         call.text();
         let own = call.characters();
         let mut characters = [0; 6];
