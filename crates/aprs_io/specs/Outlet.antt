@@ -15,7 +15,7 @@ writer_loan_of o = o.w.ghost_name
 
 -- The bytes that it holds back.
 abbrev pub held_of : {W : Type 0} → Outlet W → List ℕ
-held_of o = o.held.items
+held_of o = o.held
 
 -- The outlet took this text since the writer was `first`: a first part of it went out, and the
 -- rest is what the outlet holds.

@@ -5,6 +5,7 @@
 mod byte_vectors;
 mod cut;
 mod device;
+mod held_bytes;
 mod hexadecimal;
 mod input;
 pub mod laws;
@@ -14,7 +15,8 @@ mod shown;
 pub use byte_vectors::{copy_bytes, push_all, put};
 pub use cut::cut_at;
 pub use device::{Counted, DeviceFault, MAX_TRIES, WriteFault, send};
+pub use held_bytes::MAX_HELD;
 pub use hexadecimal::{decode_into, decode_lower_into, put_hex};
 pub use input::{InputEnd, MAX_INPUT, read_some};
-pub use outlet::{MAX_HELD, Outlet};
+pub use outlet::Outlet;
 pub use shown::{are_shown, put_shown, shown_byte};

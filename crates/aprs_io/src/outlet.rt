@@ -2,20 +2,16 @@
 ghost use Rattle.std.specs.Prelude.{◌≡◌, []};
 ghost use Rattle.aprs_io.specs.Device.{Sends};
 
-use crate::{Counted, WriteFault, push_all, send};
-use arrayvec::ArrayVec;
+use crate::held_bytes::{HeldBytes, MAX_HELD};
+use crate::{Counted, WriteFault, send};
 use std::io::Write;
-
-/// The most bytes that are held back: twice those of a `BufWriter`, so that they aren't buffered
-/// there again.
-pub const MAX_HELD: usize = 16_384;
 
 /// Has a writer on loan, and holds bytes back that it sends a buffer full at a time. What it still
 /// holds where it is dropped is lost: call `flush` before.
 #[derive(Drop)]
 pub struct Outlet<'a, W> {
     w: &'a mut Counted<W>,
-    held: ArrayVec<u8, MAX_HELD>,
+    held: HeldBytes,
 }
 
 impl<'a, W: Write> Outlet<'a, W> {
@@ -28,7 +24,7 @@ impl<'a, W: Write> Outlet<'a, W> {
     {
         Outlet {
             w,
-            held: ArrayVec::new(),
+            held: HeldBytes::new(),
         }
     }
 
@@ -45,7 +41,7 @@ impl<'a, W: Write> Outlet<'a, W> {
                 return send(self.w, bytes);
             }
         }
-        push_all(&mut self.held, bytes);
+        self.held.push_all(bytes);
         Ok(())
     }
 
