@@ -3,13 +3,13 @@ use Rattle.std.proofs.Common.{◌≡◌, ℕ, ◌+◌, ◌-◌, ◌*◌, ◌≤�
 use Rattle.std.proofs.lemmas.Bool.{ltb-false, eqb-false}
 use Rattle.aprs_ax25.proofs.Sounds.{cond-None}
 use Rattle.std.specs.List.{AllByRecursion}
-use Rattle.std.proofs.lemmas.List.{map-append, drop-replicate, take_all, take_more, length-map, length-drop, drop_more}
+use Rattle.std.proofs.lemmas.List.{length-append, map-append, drop-replicate, take_all, take_more, length-map, length-drop, drop_more}
 use Rattle.aprs_ax25.specs.Callsign.{Call}
 use Rattle.aprs_ax25.specs.Address.{Address, IsAddress, characters_and_spaces, address_octets}
 use Rattle.aprs_ax25.specs.Frame.{Parts, IsParts, FrameOf, address_field, spelling}
 use Rattle.aprs_ax25.specs.declared.hop.Hop.{Hop}
-use Rattle.aprs_ax25.specs.FrameFault.{frame_fault, parts_of}
-use Rattle.aprs_ax25.proofs.Spellings.{FrameOf-frame_fault, FrameOf-parts_of}
+use Rattle.aprs_ax25.specs.FrameFault.{field_len, frame_fault, parts_of}
+use Rattle.aprs_ax25.proofs.Spellings.{FrameOf-frame_fault, FrameOf-parts_of, spelling-field_len}
 use Rattle.aprs_ax25.specs.Making.{destination_address, source_address, hop_address, made_parts, make_fault}
 
 double-spaces : (n : ℕ) → map (λ b. 2 * b) (replicate n 32) ≡ replicate n 64
@@ -109,3 +109,22 @@ made-spelled destination source hops info a b c d p q r s =
     (r ∙ ap (λ l. l ++ 240 ∷ []) (q ∙ ap (λ l. l ++ 3 ∷ []) p)
     ∙ append_assoc field (3 ∷ []) (240 ∷ []))
     ∙ append_assoc field (3 ∷ 240 ∷ []) info
+
+-- its information begins after the control and the PID octet
+pub made-info_at : (destination source : Call) (hops : List Hop) (info a b c d : List ℕ)
+    → IsParts (made_parts destination source hops info)
+    → a ≡ address_field (destination_address destination ∷ source_address source ∷ map hop_address
+    hops)
+    → b ≡ a ++ 3 ∷ [] → c ≡ b ++ 240 ∷ [] → d ≡ c ++ info → length c ≡ field_len d + 2
+made-info_at destination source hops info a b c d h p q r s =
+    let len = ap field_len (made-spelled destination source hops info a b c d p q r s)
+    ∙ spelling-field_len (made_parts destination source hops info) h in
+    omega (
+      arith,
+      len,
+      ap length p,
+      ap length q,
+      length-append a (3 ∷ []),
+      ap length r,
+      length-append b (240 ∷ []),
+    )

@@ -1,11 +1,11 @@
 -- Bytes without a fault are the frame of their parts.
-use Rattle.std.proofs.Common.{◌≡◌, ℕ, ◌+◌, ◌-◌, ◌*◌, ◌/◌, ◌%◌, ◌≤◌, ◌<◌, ◌==◌, suc, zero, List, [], ◌∷◌, ◌++◌, length, get_or, take, drop, map, Bool, true, false, not, cond, ◌&&◌, nat_le, Option, None, Some, slice_get, arith, sym, ap, ◌∙◌, refl, slice_index, subst, take-append-drop, inl, inr}
+use Rattle.std.proofs.Common.{◌≡◌, ℕ, ◌+◌, ◌-◌, ◌*◌, ◌/◌, ◌%◌, ◌≤◌, ◌<◌, ◌==◌, suc, zero, List, [], ◌∷◌, ◌++◌, length, get_or, take, drop, map, Bool, true, false, not, cond, ◌&&◌, nat_le, Option, None, Some, slice_get, arith, sym, ap, ◌∙◌, refl, slice_index, subst, take-append-drop}
 use Rattle.std.specs.List.{list_all, position_or_len, AllByRecursion, All}
 use Rattle.std.proofs.lemmas.List.{length-take-le, length-drop, length-map, take-take, drop-take, drop-drop, get_or-take, get_or-drop}
 use Rattle.std.proofs.lemmas.Option.{slice_get-map, slice_get-get_or}
 use Rattle.std.specs.Option.{option_map}
 use Rattle.std.proofs.lemmas.List.Sums.{fails_before_first, passes_at_first, position_or_len_is, AllPass-from_list_all}
-use Rattle.std.proofs.lemmas.Bool.{cases_lt, and_parts, and_from, eqb-true, leb-true, leb-false, ltb-false, le-leb, lt-leb, le-ltb}
+use Rattle.std.proofs.lemmas.Bool.{and_parts, and_from, eqb-true, leb-true, leb-false, ltb-false, le-leb, lt-leb, le-ltb}
 use Rattle.aprs_ax25.specs.Address.{Address, IsAddress}
 use Rattle.aprs_ax25.specs.Frame.{Parts, FrameOf, address_field}
 use Rattle.aprs_ax25.specs.FrameFault.{ends_field, field_len, field_of, after_field, is_field_len, sevens, has_callsign, addresses, has_frame_fault, frame_fault, address_of, parts_of}
@@ -68,36 +68,6 @@ IsSound-frame_fault bytes s =
     let no_info : has_frame_fault NoInfo bytes ≡ false = lt-leb (length after) 2 s.info.0 in
     let long_info : has_frame_fault LongInfo bytes ≡ false = le-ltb 258 (length after) s.info.1 in
     rw (address, callsign, control, pid, no_info, long_info) refl
-
--- ---- where the address field ends, looked for at the end of each address
-
-pub field_goes_on : (f : List ℕ) → IsUiFrame f → (n : ℕ) → n % 7 ≡ 0 → 14 ≤ n → n ≤ field_len f
-    → ends_field (slice_index f (n - 1)) ≡ false → n + 7 ≤ field_len f
-field_goes_on f s n seven least most even = elim (cases_lt n (field_len f)) [
-  | inl lt ↦ (let all = s.sevenfold in omega arith)
-  | inr le ↦ absurd (
-      let within = s.within in
-      let place : position_or_len ends_field f ≡ n - 1 = omega arith in
-      let ends : ends_field (get_or f (position_or_len ends_field f) 0) ≡ true
-      = passes_at_first ends_field f 0 (omega arith) in
-      let odd : ends_field (slice_index f (n - 1)) ≡ true =
-      subst (λ k. ends_field (get_or f k 0) ≡ true) place ends in
-      let no : true ≡ false = sym odd ∙ even in
-      cc
-      )
-]
-
-pub field_ends : (f : List ℕ) (n : ℕ) → 14 ≤ n → n ≤ field_len f
-    → ends_field (slice_index f (n - 1)) ≡ true → n ≡ field_len f
-field_ends f n least most odd = elim (cases_lt n (field_len f)) [
-  | inl lt ↦ absurd (
-      let even : ends_field (get_or f (n - 1) 0) ≡ false =
-      fails_before_first ends_field f (n - 1) 0 (omega arith) in
-      let no : true ≡ false = sym odd ∙ even in
-      cc
-      )
-  | inr le ↦ omega arith
-]
 
 -- ---- the parts of bytes that have no fault
 

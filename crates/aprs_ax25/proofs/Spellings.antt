@@ -34,6 +34,9 @@ module _ (p : Parts) (h : IsParts p) where
   field_len-is : field_len f ≡ len
   field_len-is = position-address_field p.destination others rest each
 
+  pub spelling-field_len : field_len (spelling p) ≡ length field
+  spelling-field_len = field_len-is ∙ sym length-field
+
   field_of-is : field_of f ≡ field
   field_of-is = ap (λ m. take m f) field_len-is ∙ take_at field rest len length-field
 

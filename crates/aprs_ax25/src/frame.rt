@@ -6,7 +6,7 @@ ghost use Rattle.arrayvec.specs.ArrayVec.{array_vec_len};
 ghost use Rattle.aprs_ax25.specs.Address.{IsAddress};
 ghost use Rattle.std.specs.Option.{option_map};
 ghost use Rattle.aprs_ax25.specs.Frame.{Parts, FrameOf, address_field};
-ghost use Rattle.aprs_ax25.specs.FrameFault.{frame_or_fault, frame_fault, parts_of};
+ghost use Rattle.aprs_ax25.specs.FrameFault.{field_len, frame_or_fault, frame_fault, parts_of};
 ghost use Rattle.aprs_ax25.specs.Hop.{hop_of};
 ghost use Rattle.aprs_ax25.specs.Making as Spec;
 ghost use Rattle.std.specs.Ordering.{as_partial_cmp};
@@ -20,7 +20,7 @@ use crate::fault::{FrameFault, MakeFault};
 use crate::frame_ref::FrameRef;
 use crate::hop::Hop;
 use crate::plain::plain_field_len;
-use crate::scan::{CONTROL_UI, MAX_UI_FRAME, PID_NONE, fault_of};
+use crate::scan::{CONTROL_UI, MAX_UI_FRAME, PID_NONE, field_len_or_fault};
 use aprs_io::{copy_bytes, push_all};
 use arrayvec::ArrayVec;
 use std::cmp::Ordering;
@@ -32,21 +32,27 @@ use std::marker::Model;
 #[derive(Eq, Drop)]
 pub struct Frame {
     bytes: ArrayVec<u8, MAX_UI_FRAME>,
+    /// Where the information begins.
+    info_at: usize,
 }
 
 impl Model for Frame {
-    ghost use Rattle.std.specs.Prelude.{◌≡◌, List, ℕ, None};
+    ghost use Rattle.std.specs.Prelude.{◌≡◌, ◌+◌, List, ℕ, None};
     ghost use Rattle.aprs_ax25.specs.Frame.{FrameOf};
-    ghost use Rattle.aprs_ax25.specs.FrameFault.{frame_fault, parts_of};
+    ghost use Rattle.aprs_ax25.specs.FrameFault.{field_len, frame_fault, parts_of};
 
     ghost Value = { List ℕ };
 
     ghost view = { λ f. f.bytes.items };
 
     ghost invariant = { λ f. (frame_fault f.bytes.items ≡ None)
-        × FrameOf (parts_of f.bytes.items) f.bytes.items };
+        × FrameOf (parts_of f.bytes.items) f.bytes.items
+        × (f.info_at ≡ field_len f.bytes.items + 2) };
 
-    ghost inverse = { λ bytes. record { bytes = record { items = bytes } } };
+    ghost inverse = { λ bytes. record {
+      bytes = record { items = bytes };
+      info_at = field_len bytes + 2;
+    } };
 }
 
 impl Frame {
@@ -59,10 +65,8 @@ impl Frame {
         ensures frame { IfOk result (λ frame. FrameOf (parts_of frame) frame) }
         ensures only { (parts : Parts) → FrameOf parts bytes.now → IsOk result }
     {
-        match fault_in(bytes) {
-            Some(fault) => Err(fault),
-            None => Ok(Frame::from_bytes(bytes)),
-        }
+        let info_at = info_at_or_fault(bytes)?;
+        Ok(Frame::with_info_at(bytes, info_at))
     }
 
     /// Puts the frame that is all the bytes in the place of this one. Otherwise it returns their
@@ -73,13 +77,9 @@ impl Frame {
         ensures fault { IfErr result (λ fault. frame_or_fault bytes.now ≡ Err fault) }
         ensures unchanged { OnErr result (self.new ≡ self.old) }
     {
-        match fault_in(bytes) {
-            Some(fault) => Err(fault),
-            None => {
-                self.assign(bytes);
-                Ok(())
-            }
-        }
+        let info_at = info_at_or_fault(bytes)?;
+        self.assign(bytes, info_at);
+        Ok(())
     }
 
     /// The frame of these parts, as a command (AX.25 2.2, section 6.1.2): the destination's C bit
@@ -116,28 +116,42 @@ impl Frame {
         push_field(&mut bytes, destination, source, hops);
         bytes.push(CONTROL_UI);
         bytes.push(PID_NONE);
+        let info_at = bytes.len();
         push_all(&mut bytes, info);
-        Frame { bytes }
+        Frame { bytes, info_at }
     }
 
-    /// The frame whose bytes these are. Requires that they are those of a frame, as `bytes` gives
-    /// them. Where they may be none, call `read`. Takes no memory.
-    pub fn from_bytes(bytes: &[u8]) -> Frame
-        requires { FrameOf (parts_of bytes.now) bytes.now }
+    /// The frame whose bytes these are, where its information is known to begin at `info_at`.
+    pub(crate) fn with_info_at(bytes: &[u8], info_at: usize) -> Frame
+        requires frame { FrameOf (parts_of bytes.now) bytes.now }
+        requires info { info_at ≡ field_len bytes.now + 2 }
         ensures { result ≡ bytes.now }
     {
         let mut held = ArrayVec::new();
         push_all(&mut held, bytes);
-        Frame { bytes: held }
+        Frame {
+            bytes: held,
+            info_at,
+        }
     }
 
-    /// Replaces this frame by the one whose bytes these are, which have no fault as a frame.
-    fn assign(&mut self, bytes: &[u8])
-        requires { frame_fault bytes.now ≡ None }
+    /// Replaces this frame by the one whose bytes these are, which have no fault as a frame, and
+    /// whose information begins at `info_at`.
+    fn assign(&mut self, bytes: &[u8], info_at: usize)
+        requires frame { frame_fault bytes.now ≡ None }
+        requires info { info_at ≡ field_len bytes.now + 2 }
         ensures { self.new ≡ bytes.now }
     {
         self.bytes.clear();
         push_all(&mut self.bytes, bytes);
+        self.info_at = info_at;
+    }
+
+    /// Where among the bytes the information begins.
+    pub(crate) fn info_at(&self) -> usize
+        ensures { result ≡ field_len self.now + 2 }
+    {
+        self.info_at
     }
 
     /// The frame's bytes, 17 to 328. Takes no memory.
@@ -196,6 +210,7 @@ impl Frame {
     {
         Frame {
             bytes: copy_bytes(&self.bytes),
+            info_at: self.info_at,
         }
     }
 }
@@ -235,15 +250,19 @@ impl PartialOrd for Frame {
     }
 }
 
-/// The first fault of the bytes as a frame, or `None` where they are a frame. Where one fast look
-/// at the addresses doesn't show that they are, `fault_of` decides.
-fn fault_in(bytes: &[u8]) -> Option<FrameFault>
-    ensures { result ≡ frame_fault bytes.now }
+/// Where the information of the frame that is all the bytes begins, or their first fault as a
+/// frame. Where one fast look at the addresses doesn't show that they are a frame,
+/// `field_len_or_fault` decides.
+fn info_at_or_fault(bytes: &[u8]) -> Result<usize, FrameFault>
+    ensures fault { result_err result ≡ frame_fault bytes.now }
+    ensures info { IfOk result (λ at. at ≡ field_len bytes.now + 2) }
 {
-    match plain_field_len(bytes) {
-        Some(_) => None,
-        None => fault_of(bytes),
-    }
+    let len = match plain_field_len(bytes) {
+        Some(len) => len,
+        None => field_len_or_fault(bytes)?,
+    };
+    // Control and PID stand before the information.
+    Ok(len + 2)
 }
 
 /// Why this many digipeaters and bytes of information make no frame: the first fault, or `None`

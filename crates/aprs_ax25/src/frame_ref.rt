@@ -11,7 +11,7 @@ ghost use Rattle.aprs_ax25.specs.Hop.{hop_of};
 use crate::callsign::{Callsign, push_text_at};
 use crate::frame::Frame;
 use crate::hop::Hop;
-use crate::scan::{end_of_field, seven_at};
+use crate::scan::seven_at;
 use arrayvec::ArrayVec;
 
 /// A UI frame whose bytes lie elsewhere: in a `Frame`, or among others in a store. It knows where
@@ -33,9 +33,7 @@ impl<'a> FrameRef<'a> {
     pub fn of(frame: &'a Frame) -> FrameRef<'a>
         ensures { frame_bytes result ≡ frame.now }
     {
-        let bytes = frame.bytes();
-        // Control and PID stand before the information.
-        FrameRef::with_info_at(bytes, end_of_field(bytes) + 2)
+        FrameRef::with_info_at(frame.bytes(), frame.info_at())
     }
 
     /// The frame whose bytes these are, where its information is known to begin at `info_at`: no
@@ -181,6 +179,6 @@ impl<'a> FrameRef<'a> {
     pub fn to_frame(&self) -> Frame
         ensures { result ≡ frame_bytes self.now }
     {
-        Frame::from_bytes(self.bytes)
+        Frame::with_info_at(self.bytes, self.info_at)
     }
 }

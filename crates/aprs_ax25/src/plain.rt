@@ -7,8 +7,8 @@ ghost use Rattle.aprs_ax25.specs.Scan.{fault_after_field};
 use crate::scan::{CONTROL_UI, PID_NONE, is_callsign_byte};
 
 /// How many octets the address field has, where one look at each of its octets shows that the
-/// bytes are a frame. `None` decides nothing: the bytes may be a frame or not, which `fault_of`
-/// tells.
+/// bytes are a frame. `None` decides nothing: the bytes may be a frame or not, which
+/// `field_len_or_fault` tells.
 pub fn plain_field_len(bytes: &[u8]) -> Option<usize>
     ensures { IfSome result (λ len. (frame_fault bytes.now ≡ None) × (len ≡ field_len bytes.now)) }
 {

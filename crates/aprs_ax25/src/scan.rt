@@ -1,6 +1,7 @@
 //! What bytes that may be a frame have where.
-ghost use Rattle.std.specs.Prelude.{◌≡◌, ◌≤◌, ◌<◌, ◌/◌, ◌+◌, ◌-◌, ◌%◌, length, take, drop, slice_index, true, None};
+ghost use Rattle.std.specs.Prelude.{◌≡◌, ◌≤◌, ◌<◌, ◌/◌, ◌+◌, ◌-◌, ◌%◌, length, take, drop, slice_index, true, None, IfOk};
 ghost use Rattle.std.specs.List.{list_all};
+ghost use Rattle.std.specs.Result.{result_err};
 ghost use Rattle.aprs_ax25.specs.Callsign.{is_callsign_byte};
 ghost use Rattle.aprs_ax25.specs.FrameFault as Spec;
 ghost use Rattle.aprs_ax25.specs.Scan.{SplitsField, fault_after_field, fault_of_info};
@@ -34,28 +35,6 @@ pub fn field_len(bytes: &[u8]) -> usize
         }
     }
     bytes.len() + 1
-}
-
-/// How many octets the address field of a frame has. In a frame only the last octet of an address
-/// may have bit 0 set, so that every seventh octet alone is looked at, from the source's on.
-pub fn end_of_field(frame: &[u8]) -> usize
-    requires { Spec.frame_fault frame.now ≡ None }
-    ensures { result ≡ Spec.field_len frame.now }
-{
-    let mut end = 14;
-    'addresses: while !ends_address(frame, end) {
-        end += 7;
-    }
-    end
-}
-
-/// Whether the octet before `end` has bit 0 set.
-fn ends_address(frame: &[u8], end: usize) -> bool
-    requires some { 0 < end }
-    requires within { end ≤ length frame.now }
-    ensures { result ≡ Spec.ends_field (slice_index frame.now (end - 1)) }
-{
-    frame[end - 1] % 2 == 1
 }
 
 /// How many octets at the start of an address are, shifted right by one bit, capitals or digits: up
@@ -150,19 +129,22 @@ fn fault_of_info(len: usize) -> Option<FrameFault>
     }
 }
 
-/// The first fault of the bytes as a frame, in the order of the faults' numbers, or `None` where
-/// they are a frame.
+/// How many octets the address field of the frame that is all the bytes has, or the first fault of
+/// the bytes as a frame, in the order of the faults' numbers.
 #[cold]
-pub fn fault_of(bytes: &[u8]) -> Option<FrameFault>
-    ensures { result ≡ Spec.frame_fault bytes.now }
+pub fn field_len_or_fault(bytes: &[u8]) -> Result<usize, FrameFault>
+    ensures fault { result_err result ≡ Spec.frame_fault bytes.now }
+    ensures len { IfOk result (λ len. len ≡ Spec.field_len bytes.now) }
 {
     let Some((field, rest)) = split_field(bytes) else {
-        return Some(FrameFault::Address);
+        return Err(FrameFault::Address);
     };
-    if have_callsigns(field) {
-        fault_after(rest)
-    } else {
-        Some(FrameFault::Callsign)
+    if !have_callsigns(field) {
+        return Err(FrameFault::Callsign);
+    }
+    match fault_after(rest) {
+        Some(fault) => Err(fault),
+        None => Ok(field.len()),
     }
 }
 
