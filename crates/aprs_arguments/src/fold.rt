@@ -169,7 +169,7 @@ fn fold_command<'a>(alloc: Global) -> Result<Command<'a>, AllocError>
     with_new_to.arg(check)
 }
 
-/// The option `--check`, which has no value.
+/// Makes the option `--check`, which has no value.
 fn check_arg<'a>(alloc: Global) -> Arg<'a>
     ensures rule { rule_of result ≡ Spec.check_rule }
     ensures local { result.global ≡ false }
@@ -180,7 +180,7 @@ fn check_arg<'a>(alloc: Global) -> Arg<'a>
         .help(help::FOLD_CHECK)
 }
 
-/// The argument BOOK, of which any number may be given.
+/// Makes the argument BOOK, of which any number may be given.
 fn books_arg<'a>(alloc: Global) -> Arg<'a>
     ensures rule { rule_of result ≡ inputs_rule }
     ensures local { result.global ≡ false }

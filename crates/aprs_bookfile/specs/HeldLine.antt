@@ -1,4 +1,5 @@
--- What is held of a line that is read.
+-- What is held of a line that is read. A place says in which field of a row's line some bytes end,
+-- and how far in it. It is `None` where no row's line begins so.
 use Rattle.std.specs.Prelude.{◌≡◌, ℕ, ◌+◌, ◌<◌, ◌≤◌, ◌&&◌, ◌⊎◌, Bool, true, false, List, ◌++◌, length, Option, None, Some, nat_le, take}
 use Rattle.aprs_bookfile.specs.RowPlace.{last_after, place_in}
 use Rattle.aprs_bookfile.specs.declared.row_place.Place.{Place}

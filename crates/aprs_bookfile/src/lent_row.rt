@@ -20,7 +20,8 @@ use std::marker::Model;
 #[derive(Drop)]
 pub struct LentRow<'a> {
     row: RowView<'a>,
-    /// The row's line as it is written, without its LF. Empty where it isn't known.
+    /// The row's line as a book file of version 3 has it, without its LF. Empty where it isn't
+    /// known.
     line: &'a [u8],
 }
 

@@ -84,8 +84,9 @@ fn take_known<W: Write, A: Allocator + Copy>(
     Ok(wrote)
 }
 
-/// Lets the next row join the last one where it is near. Otherwise puts the line of the last one
-/// as `put_last_new` does, and has the next in its place. Returns whether a line was put.
+/// Takes the next row, a known one or another. It joins the last one where it is near: of the same
+/// key, and at most the gap after it. Otherwise this puts the line of the last one as
+/// `put_last_new` does, and has the next in its place. Returns whether a line was put.
 fn take_new<W: Write, A: Allocator + Copy>(
     gap: Gap,
     range: &SourceRange,

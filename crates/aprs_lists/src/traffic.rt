@@ -1,4 +1,5 @@
-//! Copies of messages, and answers to them, among the rows of a book.
+//! Copies of messages, and answers to them, among the rows of a book. What a row says is what its
+//! frame says, or the frame that this passes on. The gate is the station that passed it on.
 //!
 //! Words of the contracts here:
 //! - `GivesCopy row copy`: the row says this message, from its first to its last moment.
@@ -248,7 +249,7 @@ fn message_in<'t>(said: &Said<'t>) -> Option<MessageName<'t>>
     }
 }
 
-/// The answer that a row is, or `None` where it is none.
+/// The answer that a row says, or `None` where it says none.
 fn answer_in<'t>(row: &RowView<'t>) -> Option<Answer<'t>>
     ensures { HoldsOnly (Spec.GivesNetReply row.now) (option_map reply_of result) }
 {

@@ -1,4 +1,5 @@
--- What an input's rows make of a book, and why its book isn't merged.
+-- What an input's rows make of a book, and why its book isn't merged. A log stands for the set of
+-- its receptions, a book file for any set whose book it is.
 use Rattle.std.specs.Prelude.{◌≡◌, ◌≢◌, ℕ, List, Option, None, Some, Result, Ok, Err, map}
 use Rattle.aprs_io.specs.Input.{Gets}
 use Rattle.aprs_io.specs.declared.input.InputEnd.{InputEnd}

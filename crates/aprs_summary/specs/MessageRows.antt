@@ -122,8 +122,8 @@ answer_cmp = then_cmp (on (λ a. a.source) call_cmp)
 -- ---- entries, one for each message or answer of the rows
 
 -- Entries for what the rows report. Each thing that a row's key reports, as P says, has an entry.
--- Of each entry T holds: of the rows, of the thing that its key shows, and of its value. Two
--- entries for one thing aren't excluded.
+-- Of each entry T holds: of the rows, of the thing that `shown` gives of the entry's first part,
+-- and of its second. Two entries for one thing aren't excluded.
 pub record IsCollected {K V M : Type 0} (shown : K → M) (P : M → Key → Type 0)
     (T : List Row → M → V → Type 0) (rows : List Row) (entries : List (K × V)) : Type 0 where
   pub each : (e : K × V) → e ∈ entries → T rows (shown e.0) e.1

@@ -52,8 +52,8 @@ impl<'a, A: Allocator + Copy> NameRoom<'a, A> {
         Ok(NameRoom { names, text, room })
     }
 
-    /// How many bytes the room has, with those of the names that aren't united yet. So it is at
-    /// least what is left, and more where names were gathered.
+    /// How many bytes may be left at most: all that the room has, with those of the names that
+    /// aren't united yet. Fewer are left where names were gathered.
     pub(crate) fn left(&self) -> usize
         ensures { self.now.left ≤ result }
     {

@@ -78,8 +78,8 @@ impl<A: Allocator + Copy> BookStore<A> {
         self.gap
     }
 
-    /// Adds a reception, which joins the rows that it is near to. After `Memory` the book is as
-    /// before.
+    /// Adds a reception to the book, in which it joins the rows that it is near to. The store
+    /// itself joins rows where they are asked for. After `Memory` the book is as before.
     pub fn push_reception(&mut self, x: &Reception) -> Result<(), Memory>
         ensures pushed { OnOk result (self.new ≡ record {
           gap = self.old.gap;

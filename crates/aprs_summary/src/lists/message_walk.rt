@@ -1,4 +1,5 @@
-//! The walk over the messages of a summary.
+//! The walk over the messages of a summary. An answer is an ack or a rej, and the greatest is the
+//! one that was heard last.
 ghost use Rattle.std.specs.Prelude.{◌≡◌, ℕ, List, map};
 ghost use Rattle.std.specs.Iterator.{YieldsFirst, item_count};
 ghost use Rattle.std.specs.Option.{option_copied};
@@ -108,8 +109,8 @@ fn reply_ack_of<'t, A: Allocator + Copy>(
     }
 }
 
-/// The greatest answer to this id of a message, or the greatest reply-ack to this number of it.
-/// `None` where there is none, or the addressee is no callsign.
+/// The greatest answer to this id of a message, or, where `is_reply`, the greatest reply-ack to
+/// this number of it. `None` where there is none, or the addressee is no callsign.
 fn greatest_answer<'t, 'b, A: Allocator + Copy>(
     message: &MessageKey<'t>,
     id: &'t [u8],
