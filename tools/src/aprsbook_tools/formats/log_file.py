@@ -7,12 +7,12 @@ its lines are held.
 import collections
 import errno
 import os
-from typing import Callable, Deque, Dict, NamedTuple, Optional, Set, Tuple
+from typing import IO, Callable, Deque, Dict, Iterator, NamedTuple, Optional, Set, Tuple
 
-from aprsbook_tools.errors import said
+from aprsbook_tools.errors import Fault, said
 from aprsbook_tools.formats import forms, limits, moments
 from aprsbook_tools.formats.forms import form
-from aprsbook_tools.system import disk
+from aprsbook_tools.system import disk, long_lines
 from aprsbook_tools.system.clock import CLOCK
 
 try:
@@ -69,6 +69,15 @@ def read_whole(line: bytes) -> Optional[Line]:
     if not line.endswith(b"\n"):
         return None
     return read_line(line[:-2] if line.endswith(b"\r\n") else line[:-1])
+
+
+def lines_in(file: IO[bytes], name: str) -> Iterator[Tuple[bytes, Line]]:
+    """The lines of a log, each as it stands and as it is read; a Fault at one that isn't whole."""
+    for number, text in enumerate(long_lines.bounded(file), 1):
+        line = read_whole(text)
+        if line is None:
+            raise Fault(f"{name}: line {number}: no line of a log (aprs-net mend takes it out)")
+        yield text, line
 
 
 def is_torn(text: bytes) -> bool:
