@@ -93,6 +93,20 @@ def receiver(text: str) -> str:
     return text
 
 
+def typed(text: str) -> str:
+    """A text that was typed in UTF-8, also where the locale has no such characters."""
+    try:
+        text.encode()
+    except UnicodeEncodeError:
+        return os.fsencode(text).decode("utf-8", "surrogateescape")
+    return text
+
+
+def add_title(parser: argparse.ArgumentParser, words: str) -> None:
+    """--title TITLE, in `title`."""
+    parser.add_argument("--title", default="APRS net", type=typed, help=words)
+
+
 seconds_of_gap = duration(1, limits.GREATEST_GAP, "s")
 
 

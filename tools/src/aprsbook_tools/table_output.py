@@ -61,7 +61,8 @@ def gap_of(args: argparse.Namespace) -> Optional[int]:
     gap: Optional[int] = args.gap
     if gap is not None:
         return gap
-    files = [it.path for it in inputs.of(args.inputs) if os.path.isfile(it.path)]
+    found = inputs.of(args.inputs)
+    files = [it.path for it in found if os.path.isfile(it.path) and not it.fault]
     gaps = {inputs.gap_of(it) for it in files} - {None}
     return gaps.pop() if len(gaps) == 1 else None
 

@@ -122,9 +122,9 @@ PACKS: Dict[str, Callable[[bytes], bytes]] = {
 
 
 @pytest.mark.parametrize("ending", PACKS)
-@pytest.mark.parametrize("cut", [12, 40])
+@pytest.mark.parametrize("cut", [0, 12, 40])
 def test_what_cannot_be_unpacked_is_named(programs: Programs, ending: str, cut: int) -> None:
-    """Cut short, or no such file at all: in words, by each command that reads it."""
+    """Empty, cut short, or no such file at all: in words, by each command that reads it."""
     name = f"RX1.log{ending}"
     for octets in PACKS[ending](LINE.encode() * 9)[:cut], b"none of these\n":
         (programs.folder / name).write_bytes(octets)

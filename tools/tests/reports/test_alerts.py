@@ -223,7 +223,7 @@ def test_what_standard_output_refuses_is_told_again(net: Programs) -> None:
     with open("/dev/full", "wb") as full:
         process = started(*WORDS, "--state", "told", "logs", cwd=net.folder, stdout=full)
         said_ = process.communicate()[1]
-    assert process.returncode == 1 and b"standard output: No space left" in said_
+    assert process.returncode == 3 and b"standard output: No space left" in said_
     assert len(net.run(*WORDS, "--state", "told", "logs").splitlines()) == 3
 
 

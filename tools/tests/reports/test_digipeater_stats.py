@@ -194,6 +194,8 @@ def test_each_line_has_a_moment_of_its_own(
     [
         ("APRSBOOK 3 30\nEND 0\n", "is a book"),
         (LINES[0] + "\nx\n", "line 2 is no whole line of a log"),
+        ("no log, and no line feed", "line 1 is no whole line of a log"),
+        (LINES[0] + "\n" + "\0" * 9, "line 2 is no whole line of a log"),
     ],
 )
 def test_what_is_no_log_is_refused(programs: Programs, text: str, words: str) -> None:

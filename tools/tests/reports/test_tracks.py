@@ -8,6 +8,7 @@ import xml.etree.ElementTree
 from typing import Any, Dict, List
 
 import pytest
+from conftest import environment, tried
 from hypothesis import given
 from hypothesis import strategies as st
 from standing import Programs, place, put, row, tracks_of
@@ -97,6 +98,14 @@ def test_gpx(programs: Programs) -> None:
     assert [it.text for it in root.iter(GPX + "ele")] == ["304.8"]
     assert next(root.iter(GPX + "time")).text == "2024-06-21T18:15:00.000Z"
     assert "digits left out: 2" in str(points["Q1FLY"].findtext(GPX + "desc"))
+
+
+@pytest.mark.parametrize("form", ["gpx", "kml"])
+def test_a_title_is_in_utf_8_whatever_the_locale_is(programs: Programs, form: str) -> None:
+    programs.say(*EVENING)
+    ascii_alone = environment(LC_ALL="C", PYTHONCOERCECLOCALE="0", PYTHONUTF8="0")
+    done = tried("tracks", "--title", "B\u00e4se", "--format", form, "net.log", env=ascii_alone)
+    assert "name>B\u00e4se</name>" in done.stdout.decode()
 
 
 def test_geojson(programs: Programs) -> None:

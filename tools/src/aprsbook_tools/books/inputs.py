@@ -94,7 +94,7 @@ def look_at(path: str) -> Input:
     fault = ""
     if not os.access(path, os.R_OK):
         fault = "no leave to read it"
-    elif not status.st_size and re.search(r"\.book(\.[a-z0-9]+)?$", path):
+    elif not status.st_size and programs.BOOK.search(path):
         fault = "empty, which no book is"
     elif path.endswith(".zst") and not programs.is_there("zstd"):
         fault = "the program zstd isn't there: install zstd"

@@ -41,7 +41,7 @@ def logs_of(paths: Sequence[str]) -> List[str]:
 
 
 def lines_in(octets: bytes, path: str) -> List[Line]:
-    """The lines of a log, all of which are whole but for the last."""
+    """The lines of a log; of the last there may be a beginning alone."""
     if octets.startswith(book_file.BEGIN):
         raise Fault(f"{path} is a book, which has one copy of each transmission: name logs")
     found = []
@@ -49,7 +49,7 @@ def lines_in(octets: bytes, path: str) -> List[Line]:
         line = log_file.read_whole(text)
         if line is not None:
             found.append(line)
-        elif text.endswith(b"\n"):
+        elif text.endswith(b"\n") or not log_file.is_torn(text):
             raise Fault(f"{path}: line {number} is no whole line of a log")
     return found
 

@@ -59,10 +59,7 @@ def split(items: List[inputs.Input], folder: str, within: Within
 
 def add_lines(path: str, file: IO[bytes], lines: Dict[str, List[bytes]], places: Places,
               within: Within) -> None:
-    for number, line in enumerate(file, 1):
-        read = log_file.read_whole(line)
-        if read is None:
-            raise Fault(f"{path}: line {number}: no line of a log (aprs-net mend takes it out)")
+    for line, read in log_file.lines_in(file, path):
         if not within(read.moment):
             continue
         lines.setdefault(read.receiver, []).append(read.write())

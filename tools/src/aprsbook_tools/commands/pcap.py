@@ -5,10 +5,9 @@ from typing import IO, Iterator, Sequence
 
 from aprsbook_tools import arguments
 from aprsbook_tools.books import receptions
-from aprsbook_tools.errors import Fault
 from aprsbook_tools.formats import kiss, log_file
 from aprsbook_tools.imports.files import AX25_KISS
-from aprsbook_tools.system import atomic, long_lines, streams
+from aprsbook_tools.system import atomic, streams
 
 DESCRIPTION = """\
 Writes the frames of logs, of those lines that hold one, as a capture of packets that Wireshark
@@ -26,10 +25,7 @@ def add_arguments(parser: argparse.ArgumentParser) -> None:
 
 def packets(file: IO[bytes], name: str) -> Iterator[bytes]:
     """A record of each frame of a log."""
-    for number, line in enumerate(long_lines.bounded(file), 1):
-        read = log_file.read_whole(line)
-        if read is None:
-            raise Fault(f"{name}: line {number}: no line of a log (aprs-net mend takes it out)")
+    for _, read in log_file.lines_in(file, name):
         *pieces, unended = bytes.fromhex(read.digits.decode()).split(kiss.FEND)
         frames = [it for it in pieces if it]
         if len(frames) == 1 and not unended:

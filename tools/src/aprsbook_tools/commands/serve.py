@@ -87,7 +87,7 @@ def add_access(parser: argparse.ArgumentParser) -> None:
 
 
 def add_page(parser: argparse.ArgumentParser) -> None:
-    parser.add_argument("--title", default="APRS net", help="the net's title")
+    arguments.add_title(parser, "the net's title")
     arguments.add_roster(parser)
     parser.add_argument("--course", action="append", default=[], metavar="FILE", dest="courses",
                         help="GPX, KML or GeoJSON, drawn below all else")

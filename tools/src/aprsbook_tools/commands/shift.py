@@ -6,7 +6,7 @@ from typing import IO, Iterator
 from aprsbook_tools import arguments
 from aprsbook_tools.errors import Fault
 from aprsbook_tools.formats import log_file
-from aprsbook_tools.system import atomic, long_lines, streams
+from aprsbook_tools.system import atomic, streams
 
 DESCRIPTION = """\
 Moves the moments of a log by SECONDS, which are whole, and below 0 where the clock was ahead; with
@@ -41,10 +41,7 @@ def add_arguments(parser: argparse.ArgumentParser) -> None:
 def shifted(file: IO[bytes], args: argparse.Namespace) -> Iterator[bytes]:
     """The lines of the new log."""
     name = streams.name_of(args.log)
-    for number, line in enumerate(long_lines.bounded(file), 1):
-        read = log_file.read_whole(line)
-        if read is None:
-            raise Fault(f"{name}: line {number}: no line of a log (aprs-net mend takes it out)")
+    for number, (line, read) in enumerate(log_file.lines_in(file, name), 1):
         if arguments.is_within(args, read.moment) and args.receiver in (None, read.receiver):
             try:
                 line = log_file.moved(line, read, args.seconds)

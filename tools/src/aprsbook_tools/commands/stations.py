@@ -3,7 +3,7 @@ from __future__ import annotations
 
 import argparse
 
-from aprsbook_tools import table_output
+from aprsbook_tools import arguments, table_output
 from aprsbook_tools.reports import table_files, track_files
 from aprsbook_tools.reports.roster import roster_of
 from aprsbook_tools.reports.table import Station
@@ -20,7 +20,7 @@ EXAMPLES = [
 
 
 def add_arguments(parser: argparse.ArgumentParser) -> None:
-    parser.add_argument("--title", default="APRS net", help="the name of the file's content")
+    arguments.add_title(parser, "the name of the file's content")
     table_output.add_arguments(parser, table_output.MAPS)
 
 

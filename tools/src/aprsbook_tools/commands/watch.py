@@ -209,7 +209,8 @@ def run(args: argparse.Namespace) -> int:
     told: Told = set()
     if args.every is None:
         went_well = turn_of_state(args, told) if args.state else turn(args, told)[1]
-        return 0 if went_well else ExitStatus.INPUT
+        refused = ExitStatus.OUTPUT if args.command is None else ExitStatus.INPUT
+        return ExitStatus.DONE if went_well else refused
     while True:
         try:
             if args.state:

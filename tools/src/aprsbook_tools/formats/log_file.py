@@ -7,12 +7,12 @@ its lines are held.
 import collections
 import errno
 import os
-from typing import Callable, Deque, Dict, NamedTuple, Optional, Set, Tuple
+from typing import IO, Callable, Deque, Dict, Iterator, NamedTuple, Optional, Set, Tuple
 
-from aprsbook_tools.errors import said
+from aprsbook_tools.errors import Fault, said
 from aprsbook_tools.formats import forms, limits, moments
 from aprsbook_tools.formats.forms import form
-from aprsbook_tools.system import disk
+from aprsbook_tools.system import disk, long_lines
 from aprsbook_tools.system.clock import CLOCK
 
 try:
@@ -26,6 +26,7 @@ HELD = 10_000  # frames: so many are held while there is no room
 RECEIVER = forms.RECEIVER
 FORM = form(
     rb"([0-9TZ.:-]{20,24}) (%s) ([0-9A-Fa-f]*)" % RECEIVER.encode())
+TORN = form(rb"[0-9TZ.:-]{1,24}(?: [A-Za-z0-9_-]{0,16}(?: [0-9A-Fa-f]*)?)?\r?")
 MOMENT = b"0000-00-00T00:00:00.000Z "  # a line begins so, with other digits
 DIGITS = bytes.maketrans(b"123456789", b"000000000")
 REST = form(rb"[A-Za-z0-9_-]{0,16}(?:(?<! ) [0-9A-Fa-f]*)?\r?")
@@ -68,6 +69,20 @@ def read_whole(line: bytes) -> Optional[Line]:
     if not line.endswith(b"\n"):
         return None
     return read_line(line[:-2] if line.endswith(b"\r\n") else line[:-1])
+
+
+def lines_in(file: IO[bytes], name: str) -> Iterator[Tuple[bytes, Line]]:
+    """The lines of a log, each as it stands and as it is read; a Fault at one that isn't whole."""
+    for number, text in enumerate(long_lines.bounded(file), 1):
+        line = read_whole(text)
+        if line is None:
+            raise Fault(f"{name}: line {number}: no line of a log (aprs-net mend takes it out)")
+        yield text, line
+
+
+def is_torn(text: bytes) -> bool:
+    """Whether a last line without a line feed may be one that is being written."""
+    return len(text) <= LINE + 1 and TORN.fullmatch(text) is not None
 
 
 def moved(line: bytes, read: Line, seconds: int) -> bytes:

@@ -16,7 +16,7 @@ from aprsbook_tools.system import atomic, programs, user_text
 def add_options(parser: argparse.ArgumentParser) -> None:
     """What a page is told, beside its inputs."""
     count = arguments.whole_number(0, 1_000_000)
-    parser.add_argument("--title", default="APRS net", help="the page's title")
+    arguments.add_title(parser, "the page's title")
     parser.add_argument(
         "--live",
         type=count,

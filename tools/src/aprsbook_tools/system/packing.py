@@ -1,6 +1,8 @@
 """Packed files, by the endings of their names. What unpacks one is imported once there is one."""
 from __future__ import annotations
 
+import os
+
 from aprsbook_tools import TYPE_CHECKING
 
 if TYPE_CHECKING:
@@ -8,9 +10,12 @@ if TYPE_CHECKING:
 
 
 def of_gzip(path: str) -> IO[bytes]:
+    """Python takes an empty file for a packed one of nothing, and gzip doesn't."""
     import gzip
     from typing import cast
 
+    if os.path.isfile(path) and not os.path.getsize(path):
+        raise EOFError("it is empty, which no packed file is")
     return cast("IO[bytes]", gzip.open(path, "rb"))
 
 

@@ -11,6 +11,7 @@ import signal
 
 from aprsbook_tools import TYPE_CHECKING, stderr
 from aprsbook_tools.errors import ExitStatus, Fault
+from aprsbook_tools.formats.forms import form
 from aprsbook_tools.system import temporary
 
 if TYPE_CHECKING:
@@ -22,6 +23,7 @@ if TYPE_CHECKING:
 RUNNING: Set["subprocess.Popen[bytes]"] = set()  # what threads have started
 STARTING = _thread.allocate_lock()  # `threading` is imported once there are threads
 BLOCK = 1 << 16  # bytes that are read at a time
+BOOK = form(r"\.book(\.[a-z0-9]+)?\Z")  # so the name of a book ends, also of a packed one
 MANY = 100  # files, which any system opens
 _has_ended = False  # whether a signal has asked for the end
 
@@ -53,7 +55,7 @@ def find(program: str) -> str:
 def check_inputs(paths: Sequence[str]) -> None:
     """Refuses a file whose name says that it is a book and that is empty, which no book is."""
     for path in paths:
-        if path.endswith(".book") and os.path.isfile(path) and not os.path.getsize(path):
+        if BOOK.search(path) and os.path.isfile(path) and not os.path.getsize(path):
             raise Fault(f"{path} is empty, which no book is: put back a copy")
 
 
