@@ -80,6 +80,22 @@ test("where a mark is set or taken back the keyboard stays with it", { skip }, (
   assert.equal(press("#one-about", "went home"), "take back: home Q1HOME");
   assert.equal(press("#one-about", "take back"), "went home: home Q1HOME");
 });
+test("where the browser keeps no marks the page says so, and asks before it is left", { skip },
+  () => {
+    const { prototype } = globalThis.window.Storage, { setItem } = prototype;
+    const leave = () => !globalThis.window.dispatchEvent(
+      new Event("beforeunload", { cancelable: true }));
+    assert.deepEqual([byId("told").textContent, leave()], ["", false]);
+    prototype.setItem = () => { throw new Error("it is full"); };
+    button("#messages", "dealt with").click();
+    prototype.setItem = setItem;
+    assert.equal(byId("told").textContent,
+      "This browser keeps no marks: save the page of the event, which has them.");
+    assert.equal(leave(), true);
+    // where there is room again they are kept
+    button("#messages", "take back").click();
+    assert.deepEqual([byId("told").textContent, leave()], ["", false]);
+  });
 test("what is closed gives the keyboard to its row, or to the map", { skip }, async () => {
   const close = () => {
     byId("one-close").focus();
