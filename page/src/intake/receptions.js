@@ -51,7 +51,7 @@ export function* apartLog(logs) {
     parts.push(tableOf(lines.slice(at, at + STEP).map((line, n) =>
       `${isoText(APART * (at + n))}${all.get(line)}\n`).join("")));
   }
-  return joined(parts, parts.reduce((sum, it) => sum + it.length, 0));
+  return joined(parts);
 }
 /**
  * Who repeated whom by all receptions of these files; undefined where one of them is no log, they
