@@ -67,6 +67,49 @@ test("a message is marked as dealt with, by all its lists", { skip }, () => {
   button("#messages", "take back").click();
   assert.ok(newsOf("1 message unanswered"));
 });
+test("where a mark is set or taken back the keyboard stays with it", { skip }, () => {
+  const wordsNow = () => document.activeElement.getAttribute("aria-label") || "";
+  const press = (box, words) => {
+    button(box, words).focus();
+    document.activeElement.click();
+    return wordsNow();
+  };
+  assert.match(press("#messages", "dealt with"), /^take back: message Q1OLD Q1NET 1 /);
+  assert.match(press("#messages", "take back"), /^dealt with: message Q1OLD Q1NET 1 /);
+  [...document.querySelectorAll("#things .pick")].find(it => it.textContent === "Q1HOME").click();
+  assert.equal(press("#one-about", "went home"), "take back: home Q1HOME");
+  assert.equal(press("#one-about", "take back"), "went home: home Q1HOME");
+});
+test("where the browser keeps no marks the page says so, and asks before it is left", { skip },
+  () => {
+    const { prototype } = globalThis.window.Storage, { setItem } = prototype;
+    const leave = () => !globalThis.window.dispatchEvent(
+      new Event("beforeunload", { cancelable: true }));
+    assert.deepEqual([byId("told").textContent, leave()], ["", false]);
+    prototype.setItem = () => { throw new Error("it is full"); };
+    button("#messages", "dealt with").click();
+    prototype.setItem = setItem;
+    assert.equal(byId("told").textContent,
+      "This browser keeps no marks: save the page of the event, which has them.");
+    assert.equal(leave(), true);
+    // where there is room again they are kept
+    button("#messages", "take back").click();
+    assert.deepEqual([byId("told").textContent, leave()], ["", false]);
+  });
+test("what is closed gives the keyboard to its row, or to the map", { skip }, async () => {
+  const close = () => {
+    byId("one-close").focus();
+    byId("one-close").click();
+    return document.activeElement.textContent;
+  };
+  assert.deepEqual([page.picked, close()], ["station Q1HOME", "Q1HOME"]);
+  [...document.querySelectorAll("#things .pick")].find(it => it.textContent === "Q1HOME").click();
+  enter("find", "Q1NET", "input");
+  await until(() => textsOf("#things tbody th").join() === "Q1NET");
+  close();
+  assert.equal(document.activeElement, byId("map"));
+  enter("find", "", "input");
+});
 test("one's own call stands first", { skip }, () => {
   enter("call", " q1old ");
   assert.deepEqual([byId("call").value, newsOf("unanswered")],

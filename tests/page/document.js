@@ -96,9 +96,11 @@ class Node {
   all() {
     return [this, ...this.children.flatMap(it => it.all())];
   }
-  /** Those of a class: the selectors of the page's lists are these alone. */
+  /** Those of a class or of a tag, or of one of several: the page's lists ask for no others. */
   querySelectorAll(selector) {
-    return this.all().filter(it => it !== this && it.classList.contains(selector.slice(1)));
+    const isOne = (it, one) => one[0] === "." ? it.classList.contains(one.slice(1))
+      : it.tagName === one.toUpperCase();
+    return this.all().filter(it => it !== this && selector.split(", ").some(one => isOne(it, one)));
   }
   querySelector(selector) {
     return this.querySelectorAll(selector)[0] || null;

@@ -3,7 +3,7 @@ import { test } from "node:test";
 import "./document.js";
 import { drawAbout, drawNews, partText } from "../../page/src/app/header.js";
 import { page } from "../../page/src/app/state.js";
-import { message, netOfLines, place, SETTINGS } from "./tables.js";
+import { message, netOfLines, place, row, SETTINGS } from "./tables.js";
 
 const news = document.getElementById("news");
 /** A page of these rows and messages. */
@@ -27,6 +27,26 @@ test("who has the keyboard in the news keeps it, also where there is one message
   take([place(0, "Q1A", 54, -3)]);
   drawNews();
   assert.equal(document.activeElement, document.body);
+});
+test("who has the keyboard among those in need keeps it where one of them is dealt with", () => {
+  const urgent = document.getElementById("urgent"), sos = (second, call) => row("mic-e", second,
+    call, { latitude: 54.55, longitude: -3.6, symbol: "/a", says: "emergency" });
+  const labels = () => urgent.querySelectorAll("button").map(it => it.dataset.alarm);
+  take([sos(1, "Q1A"), sos(2, "Q1B"), sos(3, "Q1C")]);
+  drawNews();
+  const [first, second] = labels();
+  urgent.querySelectorAll("button")[1].focus();
+  take([sos(1, "Q1A"), sos(2, "Q1B")]);
+  drawNews();
+  assert.ok(labels().length === 2 && first !== second);
+  assert.equal(document.activeElement.dataset.alarm, second);
+  take([sos(1, "Q1A")]);
+  drawNews();
+  assert.ok(urgent.contains(document.activeElement));
+  take([place(0, "Q1A", 54, -3)]);
+  drawNews();
+  assert.equal(document.activeElement, document.getElementById("ics-close"));
+  document.body.focus();
 });
 test("of very many receivers the first are named above the news", () => {
   const receivers = Array.from({ length: 60 }, (_, k) => `RX${k + 10}`).join();

@@ -71,6 +71,21 @@ test("another drawing leaves in view what is, and the keyboard in its row", () =
     assert.deepEqual([document.activeElement, body.children.length], [document.body, 2]);
   }
 });
+test("another drawing leaves the keyboard with that button of its row that had it", () => {
+  const list = nameList(element()), { row } = list;
+  list.row = it => {
+    const node = row(it);
+    node.append(make("td", {}, make("button", { textContent: "dealt with" })));
+    return node;
+  };
+  list.show(names(9));
+  list.body.rows[4].querySelectorAll("button")[1].focus();
+  list.show(["Q1B", ...names(9)], true);
+  assert.equal(document.activeElement, list.body.rows[5].querySelectorAll("button")[1]);
+  list.row = row;
+  list.show(names(9), true);
+  assert.equal(document.activeElement, pickOf(list, "Q1A-4"));
+});
 test("what is sorted or sought is shown from its first row on", () => {
   const list = nameList(element()), { box, body } = list;
   list.show(names(100));

@@ -62,6 +62,17 @@ test("logs are checked, merged and drawn, and what is none says why", { skip }, 
   await aprsfiles.add([fileOf("coast.log", logOf("18:00:02", "COAST"))]);
   assert.equal(aprsfiles.files.length, 3);
 });
+test("where damaged lines are left out the keyboard stays in the row of their file", { skip },
+  async () => {
+    await aprsfiles.add([fileOf("torn.log", logOf("18:06:00", "TORN") + "2024-06-21T18:0")]);
+    const leave = document.querySelector("#files .leave");
+    leave.focus();
+    leave.click();
+    await until(() => verdicts()["torn.log"] === "heard 1 passed 0");
+    assert.equal(document.activeElement.textContent, "1 line left out");
+    takeAway("torn.log");
+    await until(() => aprsbook.data.notes.length === 1);
+  });
 test("a log that was packed twice says so, and one that was packed once is read", { skip },
   async () => {
     const packed = times => {

@@ -5,7 +5,8 @@ import { apartLog, repeatsBy } from "../../page/src/intake/receptions.js";
 import { repeatsOf } from "../../page/src/net/hearings.js";
 import { digipeatersOf, repeatsIn } from "../../page/src/net/repeats.js";
 import { tableOf } from "../../page/src/net/table-lines.js";
-import { atOnce } from "../../page/src/util/tasks.js";
+import { atOnce, STEP } from "../../page/src/util/tasks.js";
+import { isoText } from "../../page/src/util/time.js";
 import { beginWorkers } from "../../page/src/worker/pool.js";
 import { limits } from "../../page/src/worker/sources.js";
 import { place, table } from "./tables.js";
@@ -30,19 +31,27 @@ test("a frame counts once, by the receiver that heard most of its kind", () => {
 test("each line of logs is there once, in order, with a moment that no other is near", () => {
   const logs = ["2024-06-21T18:00:02Z B c0\n2024-06-21T18:00:01Z A c1\n",
     "2024-06-21T18:00:01Z A c1\n\n"].map(bytesOf);
-  assert.equal(textOf(apartLog(logs)),
+  assert.equal(textOf(atOnce(apartLog(logs))),
     "1970-01-01T00:00:00.000Z A c1\n1970-01-01T00:00:02.000Z B c0\n");
 });
 test("what stands behind a moment stays byte by byte, whatever spelling the moment has", () => {
   const log = bytesOf("2024-06-21T18:00:01Z A c1 c2\n2024-06-21T18:00:01.500Z B C1\n");
-  assert.equal(textOf(apartLog([log])),
+  assert.equal(textOf(atOnce(apartLog([log]))),
     "1970-01-01T00:00:00.000Z A c1 c2\n1970-01-01T00:00:02.000Z B C1\n");
 });
 test("a reception is one in both spellings of its moment, and another frame is another", () => {
   const logs = ["2024-06-21T18:00:01Z A c1\n2024-06-21T18:00:01Z A c2\n",
     "2024-06-21T18:00:01.000Z A c1\n2024-06-21T18:00:01.001Z A c1\n"].map(bytesOf);
-  assert.deepEqual(textOf(apartLog(logs)).split("\n").map(it => it.slice(24)),
+  assert.deepEqual(textOf(atOnce(apartLog(logs))).split("\n").map(it => it.slice(24)),
     [" A c1", " A c2", " A c1", ""]);
+});
+test("the page goes on while the lines of a large log are put apart", () => {
+  const many = 3 * STEP, steps = apartLog([bytesOf(Array.from({ length: many }, (_, k) =>
+    `2024-06-21T18:00:01Z A ${k}\n`).join(""))]);
+  let pauses = 0, it = steps.next();
+  for (; !it.done; it = steps.next()) pauses++;
+  assert.equal(pauses, 6);
+  assert.ok(textOf(it.value).endsWith(`\n${isoText(2 * many - 2)} A 9999\n`));
 });
 test("receptions are counted of logs alone that aren't too large, and as long as it is wanted",
   async () => {

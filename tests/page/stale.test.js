@@ -67,14 +67,16 @@ test("both zones of a night are said in which clocks change, and each day's date
 });
 test("a page doesn't load itself again where somebody would lose what was written", () => {
   const before = Object.getOwnPropertyDescriptor(globalThis, "location");
-  const of = (isWritten, isAtRisk, protocol, touched = 0) => {
+  const of = (isWritten, isAtRisk, protocol, touched = 0, marks = null) => {
     Object.defineProperty(globalThis, "location", { value: { protocol }, configurable: true });
-    Object.assign(page, { widgets: { form: { isWritten } }, own: { isAtRisk } });
+    Object.assign(page, { widgets: { form: { isWritten } }, own: { isAtRisk }, marks });
     alive.touched = touched;
     return isBusy();
   };
   assert.deepEqual([of(false, false, "file:"), of(true, false, "file:"), of(false, true, "file:"),
     of(false, false, "file:", Date.now())], [false, true, true, true]);
+  assert.deepEqual([true, false].map(isAtRisk => of(false, false, "file:", 0, { isAtRisk })),
+    [true, false]);
   // a server is asked for data alone
   assert.equal(of(true, true, "https:"), false);
   delete globalThis.location;

@@ -107,7 +107,7 @@ function listenToHead() {
       if (widgets().form.isOpen) widgets().form.open(false);
       reveal(link.dataset);
     });
-  on("one-close", "click", () => pick(page.picked));
+  on("one-close", "click", closeOne);
   on("one-origin", "click", () => takeOrigin(nameIn(page.picked || "")));
   on("other-call-set", "click", takeOtherCall);
   on("lay", "click", () => widgets().sources.lay());
@@ -116,6 +116,12 @@ function listenToHead() {
     byId("bring").value = ""; // so that the same file can be brought again
   });
   on("away", "click", takeAllAway);
+}
+/** Closes what is told of a thing; the keyboard goes to its row, where it has one, or the map. */
+function closeOne() {
+  const { picked } = page, { lists, map } = widgets();
+  pick(picked);
+  (picked !== null && lists.things.pickOf(picked) || map.node).focus({ preventScroll: true });
 }
 /**
  * Links within the page go to what they name, out of the map where that fills the window. The

@@ -3,13 +3,16 @@
 // They are entries of a journal. A net that is served shares it; else this browser keeps it by the
 // title of the net.
 
-import { page } from "./state.js";
+import { page, tell } from "./state.js";
 import { Journal } from "../desks/journal.js";
 import { storeOf } from "../ics309/own-lines.js";
 import { otherCallOf } from "../net/alarms.js";
 
 /** Nobody takes what a page by itself writes down: it stays in this browser. */
 const keepHere = async () => null;
+/** Whether the page has said last that its marks would be lost. */
+let isTold = false;
+const AT_RISK = "This browser keeps no marks: save the page of the event, which has them.";
 /**
  * Has the marks of a net by its title, where no journal is shared, and those that stand in its
  * page.
@@ -24,7 +27,11 @@ export function openMarks(title, given, onChange) {
   const marks = page.marks;
   marks.onChange = () => {}; // what is given is drawn with all else
   marks.hear(given);
-  marks.onChange = onChange;
+  marks.onChange = () => {
+    if (marks.isAtRisk !== isTold) tell(marks.isAtRisk ? AT_RISK : "", marks.isAtRisk);
+    isTold = marks.isAtRisk;
+    onChange();
+  };
 }
 /** All that is marked, as a page of the net carries it. */
 export const marksText = () => [...page.marks?.entries.keys() || []].join("\n");

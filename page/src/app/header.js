@@ -6,7 +6,7 @@ import { callsBefore } from "./dealt.js";
 import { page, shownNow, view } from "./state.js";
 import { isExcusedOf } from "../lists/stations.js";
 import { expectedOf, faultWords } from "../net/roster.js";
-import { byId, make, write } from "../util/dom.js";
+import { byId, make, replaceIn, write } from "../util/dom.js";
 import { count, firstOf, namesText } from "../util/text.js";
 import { dateText, secondText, timeText, zonesText } from "../util/time.js";
 
@@ -90,25 +90,16 @@ function newsNodes() {
   ...[...firstOf(data.notes), ...faults].map(textContent =>
     make("span", { className: "bad", textContent }))];
 }
-/**
- * Puts these in place of the news that stand there; who has the keyboard in them keeps it, also
- * where other words are said of the same.
- * @param {HTMLElement[]} nodes
- */
-function putNews(nodes) {
-  const news = byId("news"), before = /** @type {HTMLElement | null} */ (document.activeElement);
-  const of = (/** @type {HTMLElement} */ it) => `${Reflect.get(it, "href")} ${it.dataset.key}`;
-  const after = before && before !== news && news.contains(before)
-    ? nodes.find(it => of(it) === of(before)) || nodes[0] : null;
-  news.replaceChildren(...nodes.flatMap(it => [it, " "]));
-  after?.focus({ preventScroll: true });
-}
+/** What a word of the news is about, in whatever words. */
+const aboutOf = (/** @type {HTMLElement} */ it) =>
+  [Reflect.get(it, "href"), it.dataset.key, it.dataset.alarm].join(" ");
 /** What wants doing, as links; what says the same stays. */
 export function drawNews() {
   const nodes = newsNodes();
   const words = (/** @type {Element[]} */ list) =>
     list.map(it => it.className + it.textContent).join("\n");
-  if (words(nodes) !== words([...byId("news").children])) putNews(nodes);
+  if (words(nodes) !== words([...byId("news").children]))
+    replaceIn(byId("news"), nodes.flatMap(it => [it, " "]), aboutOf);
   const needs = needsOf(shownNow().net.whole.needy, view)
     .filter(it => it.grade === "alarm" || it.grade === "bad");
   drawUrgent(needs);
@@ -126,8 +117,10 @@ function drawUrgent(needs) {
   if ([...urgent.querySelectorAll("a, span")].map(it => it.textContent).join("\n") ===
     words.join("\n")) return;
   urgent.hidden = !some.length;
-  urgent.replaceChildren(...some.flatMap(it => [linkOf(it), make("button", { type: "button",
+  const button = (/** @type {import("./alerts.js").Need} */ it) => make("button", { type: "button",
     className: "deal", textContent: "dealt with", aria: { "aria-label": `dealt with: ${it.text}` },
-    onclick: () => view.onDeal(it.alarm, "") }), " "]),
-  ...words.slice(some.length).map(textContent => make("span", { textContent })));
+    data: { alarm: it.alarm }, onclick: () => view.onDeal(it.alarm, "") });
+  replaceIn(urgent, [...some.flatMap(it => [linkOf(it), button(it), " "]),
+    ...words.slice(some.length).map(textContent => make("span", { textContent }))],
+  aboutOf, byId("ics-close"));
 }

@@ -21,7 +21,8 @@ export const patience = { late: 10000, most: 120000 };
 const isServed = () => location.protocol.startsWith("http");
 /** Whether somebody is at work in the page, or would lose something where it is loaded again. */
 export const isBusy = () => Date.now() - alive.touched < 10000 || page.playing !== undefined ||
-  !isServed() && (Boolean(page.widgets?.form.isWritten) || page.own.isAtRisk);
+  !isServed() && (Boolean(page.widgets?.form.isWritten) || page.own.isAtRisk ||
+    Boolean(page.marks?.isAtRisk));
 /** Has the page of an event ask for itself again, unless somebody is at work in it. */
 export function beginAlive() {
   const { live } = shownNow().data, box = byId("live");

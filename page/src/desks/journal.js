@@ -102,6 +102,10 @@ export class Journal {
       this.isStored = false; // it is full, or forbidden: the page has them until it is closed
     }
   }
+  /** Whether entries are in this page alone, and gone where it is closed or loaded again. */
+  get isAtRisk() {
+    return !this.isStored && this.waiting.size > 0;
+  }
   /**
    * Takes an entry; says whether it is new.
    * @param {string} text

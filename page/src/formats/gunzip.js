@@ -8,9 +8,12 @@ import { fromBase64 } from "./base64.js";
 export const MOST = 2 ** 30;
 export const TOO_LARGE = "can't be read: it has more than 1 GiB";
 
-/** @param {Uint8Array[]} parts @param {number} size of all of them */
-export function joined(parts, size) {
-  const all = new Uint8Array(size);
+/**
+ * The bytes of all parts, one after the other.
+ * @param {Uint8Array[]} parts
+ */
+export function joined(parts) {
+  const all = new Uint8Array(parts.reduce((sum, it) => sum + it.length, 0));
   let at = 0;
   for (const it of parts) {
     all.set(it, at);
@@ -42,12 +45,12 @@ export async function beginningOf(stream, head, most = MOST) {
   };
   const all = async () => {
     await readTo(most + 1);
-    if (size <= most) return joined(parts, size);
+    if (size <= most) return joined(parts);
     reader.cancel().catch(() => {});
     throw new Error(TOO_LARGE);
   };
   await readTo(head);
-  return { head: joined(parts, size).subarray(0, head), all };
+  return { head: joined(parts).subarray(0, head), all };
 }
 /**
  * What zlib packed.

@@ -19,7 +19,7 @@ export class Form {
    * @param {{ shown: { net: import("../net/net.js").Net,
    *   data: { title: string, lines?: unknown } } | null,
    *   settings: import("../net/settings.js").Settings,
-   *   own: import("./own-lines.js").OwnLines }} page
+   *   own: import("./own-lines.js").OwnLines, marks: { isAtRisk: boolean } | null }} page
    * @param {{ now: () => number, save: () => void }} of the moment of the page, and what saves the
    *   log as CSV
    */
@@ -148,6 +148,8 @@ export class Form {
     addEventListener("beforeprint", () => this.isOpen && sheetsShown.whole());
     addEventListener("storage", ({ key }) => this.hear(key));
     // the browser asks whether to leave
-    addEventListener("beforeunload", event => this.page.own.isAtRisk && event.preventDefault());
+    addEventListener("beforeunload", event => {
+      if (this.page.own.isAtRisk || this.page.marks?.isAtRisk) event.preventDefault();
+    });
   }
 }

@@ -75,5 +75,5 @@ export function* shifting(bytes, shifts) {
     isMoved ||= has;
     yield;
   }
-  return isMoved ? joined(parts, parts.reduce((sum, it) => sum + it.length, 0)) : bytes;
+  return isMoved ? joined(parts) : bytes;
 }

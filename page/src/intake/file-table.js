@@ -7,7 +7,7 @@ import { movedIn, receiversIn } from "./clock-shift.js";
 import { leaveOut, lineText, look, shifts, SHOWN } from "./intake.js";
 import { options } from "./options.js";
 import { apartText } from "../net/clock-words.js";
-import { byId, make, save } from "../util/dom.js";
+import { byId, make, replaceIn, save } from "../util/dom.js";
 import { count, printable } from "../util/text.js";
 import { sizeOf } from "../worker/sources.js";
 
@@ -25,11 +25,14 @@ function takeAway(file, work) {
   const at = files.indexOf(file);
   files.splice(at, 1);
   work();
-  const next = files[Math.min(at, files.length - 1)];
-  /** @type {HTMLButtonElement | null | undefined} */
-  const button = next?.row?.querySelector("td:last-child button");
-  (button || byId("choose")).focus();
+  (awayOf(files[Math.min(at, files.length - 1)]?.row) || byId("choose")).focus();
 }
+/**
+ * What takes a file away, the last button of its row.
+ * @param {HTMLTableRowElement | undefined} row
+ * @returns {HTMLButtonElement | null}
+ */
+const awayOf = row => row?.querySelector("td:last-child button") ?? null;
 /**
  * Fields for what a KISS stream doesn't say.
  * @param {Given} file
@@ -159,7 +162,7 @@ function rowOf(file, work) {
     file.over, file.spelling, movedText(file)].join();
   if (more.dataset.state === state) return row;
   more.dataset.state = state;
-  more.replaceChildren(...moreOf(file, work));
+  replaceIn(more, moreOf(file, work), it => it.className, awayOf(row));
   return row;
 }
 /** The files with which something is wrong, by which the table was folded last. */

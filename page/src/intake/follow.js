@@ -258,7 +258,7 @@ const earlier = new Map();
  */
 async function keepEarlier(file, old) {
   const known = earlier.get(file), before = known ? await bytesIn(known.bytes) : new Uint8Array();
-  const all = joined([before, old], before.length + old.length);
+  const all = joined([before, old]);
   const lines = linesLost(all, await bytesIn(file.bytes));
   if (!known && !lines.length) return;
   const it = known || fileOf(`${file.name}, before it began anew`, "log", lines);
@@ -279,7 +279,7 @@ async function grownOf(had, url, length) {
     const { answer, bytes } =
       await askFor(url, pace.limit, { headers: { Range: `bytes=${from}-` } });
     if (answer.status !== 206) return bytes;
-    const all = joined([had.subarray(0, from), bytes], from + bytes.length);
+    const all = joined([had.subarray(0, from), bytes]);
     if (isLonger(had, all)) return all;
   }
   return (await askFor(url, pace.limit)).bytes;

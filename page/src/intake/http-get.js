@@ -41,13 +41,11 @@ export async function askFor(url, limit, options = {}) {
  */
 async function bytesOf({ body }, onPart) {
   const reader = body?.getReader(), parts = [];
-  let size = 0;
   for (let it = await reader?.read(); it && !it.done; it = await reader?.read()) {
     parts.push(it.value);
-    size += it.value.length;
     onPart();
   }
-  return joined(parts, size);
+  return joined(parts);
 }
 /** A list of more logs than these isn't one. */
 const MOST = 1000;

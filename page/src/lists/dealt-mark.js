@@ -28,7 +28,7 @@ export function dealtNodes(alarm, { markOf, onDeal, onUndo, settings }, notes = 
   const mark = markOf(alarm);
   const button = (/** @type {string} */ words, /** @type {() => void} */ onclick) =>
     make("button", { type: "button", className: "deal no-print", textContent: words, onclick,
-      aria: { "aria-label": `${words}: ${alarm}` } });
+      data: { alarm }, aria: { "aria-label": `${words}: ${alarm}` } });
   if (mark) return [" ", make("small", { className: "mark-told",
     textContent: markWords(mark, settings) }), " ", button("take back", () => onUndo(alarm))];
   return notes.flatMap(note => [" ", button(note || "dealt with", () => onDeal(alarm, note))]);

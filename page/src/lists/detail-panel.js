@@ -13,7 +13,7 @@ import { cell, heardCell, List, timeCell } from "./table-view.js";
 import { markOf, symbolOf } from "../map/symbols.js";
 import { wordsOf } from "../net/details.js";
 import { channelsOf } from "../net/telemetry.js";
-import { air, byId, make, momentOf } from "../util/dom.js";
+import { air, byId, make, momentOf, replaceIn } from "../util/dom.js";
 import { namesText } from "../util/text.js";
 
 /** @typedef {import("../net/things.js").Thing} Thing */
@@ -38,8 +38,9 @@ export function drawPanel(thing, { all, net, from, view }) {
     make("small", { textContent: ` ${thing.kind}${thing.killed ? ", killed" : ""}` }));
   const channels = channelsOf(all.messages, thing.name);
   const of = { picks: net.rows, channels, from, view };
-  byId("one-about").replaceChildren(...factsOf(thing, of).flatMap(([name, ...value]) =>
-    [make("dt", { textContent: name }), make("dd", {}, ...value)]));
+  const facts = factsOf(thing, of).flatMap(([name, ...value]) =>
+    [make("dt", { textContent: name }), make("dd", {}, ...value)]);
+  replaceIn(byId("one-about"), facts, it => it.dataset.alarm || "", byId("one-close"));
   const numbers = numbersOf(thing, net.rows);
   byId("one-graphs").replaceChildren(
     ...graphsOf(all.rows, numbers, channels, settings)

@@ -79,7 +79,7 @@ function messageRow(it, view, onPick) {
 /** @param {HTMLElement} box @param {View} view @param {OnPick} onPick */
 export function messageList(box, view, onPick) {
   const row = (/** @type {Message} */ it) => messageRow(it, view, onPick);
-  return new List(box, { id: "messages", caption: "messages", row, columns: [
+  return new List(box, { id: "messages", caption: "messages", row, keyOf: unansweredOf, columns: [
     { title: "state", value: it => placeOf(it, view) }, { title: "from", value: it => it.source },
     { title: "to", value: it => it.addressee }, { title: "text", value: it => it.text },
     { title: "no.", value: it => it.id }, { title: "first", number: true, value: it => it.first },

@@ -61,7 +61,7 @@ export function linesOf(visits, { names }) {
 export function passedList(box, visits, { points, settings }, onPick) {
   const passages = passagesOf(points.length, visits);
   const hasLaps = visits.some(it => it.lap > 1);
-  const row = (/** @type {Line} */ it) => make("tr", { data: { key: it.key } },
+  const row = (/** @type {Line} */ it) => make("tr", {},
     cell("num", letters(printable(it.bib))), make("th", { scope: "row" },
       make("button", { type: "button", className: "pick", title: "show on the map",
         onclick: () => onPick(it.key) }, callIn(it.name))),

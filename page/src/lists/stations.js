@@ -78,7 +78,7 @@ function thingRow(it, view, onPick) {
   const kind = [it.kind + (it.killed ? " killed" : "")];
   if (it.kind !== "station" && now)
     kind.push(make("small", { textContent: ` of ${settings.names.shown(now.source)}` }));
-  return make("tr", { className: marksOf(it, view), data: { key: it.key } },
+  return make("tr", { className: marksOf(it, view) },
     make("th", { scope: "row" }, now ? markOf(it, now) : make("span", { className: "mark" }), pick,
       ...newMark(view.isNewThing(it))),
     cell("kind", ...kind), timeCell(it.last, settings),
@@ -188,7 +188,8 @@ export function receiverList(box, view) {
       make("td", { className: clock.wrong ? "num wrong" : "num", title: clock.title }, clock.text,
         ...clockButtons(it, clock.wrong, view)));
   };
-  return new List(box, { id: "receivers", caption: "receivers", row, columns: [
+  const keyOf = (/** @type {Receiver} */ it) => it.name;
+  return new List(box, { id: "receivers", caption: "receivers", row, keyOf, columns: [
     { title: "receiver", value: it => it.name },
     { title: "last heard", number: true, value: it => it.last },
     { title: "age", number: true, value: it => -it.last },
@@ -222,7 +223,8 @@ export function rosterList(box, view, onPick) {
         ...dealtNodes(homeOf(it.call), view, [ABSENT])),
       heard ? ageCell(heardAt, view) : cell("num age"));
   };
-  return new List(box, { id: "expected", caption: "expected stations", row, columns: [
+  const keyOf = (/** @type {Waited} */ it) => it.call;
+  return new List(box, { id: "expected", caption: "expected stations", row, keyOf, columns: [
     { title: "call", value: it => it.call }, { title: "who", value: it => it.name },
     { title: "group, no.", value: it => it.group + it.bib },
     { title: "last heard", number: true, value: it => it.heardAt },

@@ -31,13 +31,13 @@ const standing = new WeakMap();
  */
 export class List {
   /**
-   * `row` makes a row of an item, and `keyOf` says by which key it is marked. It stands in `box`,
-   * which scrolls.
+   * `row` makes a row of an item, and `keyOf` says by which key it is marked, and known again in
+   * another drawing. It stands in `box`, which scrolls.
    * @param {HTMLElement} box
    * @param {{ id: string, caption: string, columns: Column<T>[],
    *   row: (it: T) => HTMLTableRowElement, none?: string, keyOf?: (it: T) => string }} of
    */
-  constructor(box, { id, caption, columns, row, none = "none", keyOf = () => "" }) {
+  constructor(box, { id, caption, columns, row, none = "none", keyOf }) {
     this.box = box;
     /** What is said on paper of rows that aren't there. */
     this.rest = make("p", { className: "rest" });
@@ -54,7 +54,10 @@ export class List {
     this.built = built;
     this.scrolled = scrolled;
     standing.set(box, this);
-    /** @type {string | null} the key of the row that gets the keyboard once it is built */
+    /**
+     * The row that gets the keyboard once it is built, by its key, and which of its buttons.
+     * @type {{ key: string, button: number } | null}
+     */
     this.sought = null;
     this.heads = columns.map((it, n) => this.headOf(it, n));
     this.body = make("tbody");
@@ -129,25 +132,29 @@ export class List {
       this.build(Math.min(PART, end - this.built));
       yield;
     }
-    if (this.sought !== null) this.seek(this.sought);
+    if (this.sought) this.seek(this.sought.key);
     while (this.body.children.length > this.built) this.body.lastElementChild?.remove();
   }
-  /** The key of the row that has the keyboard, or null. */
+  /** The row that has the keyboard, by its key, and which of its buttons; or null. */
   get keyboard() {
     const { activeElement } = document;
     const row = this.body.contains(activeElement) ? activeElement?.closest("tr") : null;
-    return row?.dataset.key ?? null;
+    const key = row?.dataset.key;
+    return row && key !== undefined
+      ? { key, button: buttonsIn(row).findIndex(it => it === activeElement) } : null;
   }
   /**
    * Gives the keyboard back to the row that had it, unless it went on.
    * @param {HTMLTableRowElement[]} rows new ones
    */
   refocus(rows) {
-    const row = rows.find(it => it.dataset.key === this.sought), { activeElement } = document;
+    const { sought } = this, { activeElement } = document;
+    const row = sought && rows.find(it => it.dataset.key === sought.key);
     if (!row) return;
     this.sought = null;
-    if (activeElement === document.body || this.body.contains(activeElement))
-      picksIn(row)[0]?.focus({ preventScroll: true });
+    if (activeElement !== document.body && !this.body.contains(activeElement)) return;
+    const buttons = buttonsIn(row);
+    (buttons[sought.button] || buttons[0])?.focus({ preventScroll: true });
   }
   /** @param {T[]} items */
   sorted(items) {
@@ -165,6 +172,7 @@ export class List {
     const rows = this.items.slice(this.built, this.built + n).map((item, k) => {
       const row = this.row(item);
       row.setAttribute("aria-rowindex", String(this.built + k + 2));
+      if (this.keyOf) row.dataset.key = this.keyOf(item);
       return row;
     });
     rows.forEach(press);
@@ -195,11 +203,19 @@ export class List {
     }
   }
   /**
+   * What can be picked in the row of a key, where that is built.
+   * @param {string} key
+   */
+  pickOf(key) {
+    const row = [...this.body.rows].find(it => it.dataset.key === key);
+    return row && picksIn(row)[0];
+  }
+  /**
    * Builds on until the row of a key is there.
    * @param {string} key
    */
   seek(key) {
-    const at = this.items.findIndex(it => this.keyOf(it) === key);
+    const at = this.items.findIndex(it => this.keyOf?.(it) === key);
     if (at >= this.built && at < 5000) this.build(at + 1 - this.built);
   }
   /** Builds all, for paper; where that is too much, it says so. */
@@ -239,6 +255,8 @@ const STEPS = { ArrowDown: 1, ArrowUp: -1, Home: -Infinity, End: Infinity };
  */
 const picksIn = node =>
   [.../** @type {NodeListOf<HTMLElement>} */ (node.querySelectorAll(".pick"))];
+/** @param {HTMLElement} row */
+const buttonsIn = row => [...row.querySelectorAll("button")];
 /**
  * Says of what can be picked in a row whether it is.
  * @param {HTMLTableRowElement} row

@@ -58,6 +58,24 @@ export function make(tag, of, ...inside) {
   for (const it of inside) if (it !== null && it !== undefined) node.append(it);
   return node;
 }
+/**
+ * Puts these in place of what stands in an element. Who has the keyboard in it keeps it: in what
+ * has the same name, or else in the first that takes it, or in `rest`.
+ * @param {HTMLElement} box
+ * @param {(Node | string)[]} nodes
+ * @param {(it: HTMLElement) => string} nameOf
+ * @param {HTMLElement | null} [rest] is where nothing in it takes the keyboard
+ */
+export function replaceIn(box, nodes, nameOf, rest = null) {
+  const before = /** @type {HTMLElement | null} */ (document.activeElement);
+  const name = before && before !== box && box.contains(before) ? nameOf(before) : null;
+  box.replaceChildren(...nodes);
+  if (name === null) return;
+  const stops = [.../** @type {NodeListOf<HTMLElement>} */ (
+    box.querySelectorAll("a, button, summary"))];
+  const after = stops.find(it => nameOf(it) === name) || stops[0] || rest;
+  after?.focus({ preventScroll: true });
+}
 /** A letter with more marks on it than these would be as wide as all of them, without a font. */
 const MARKS = /(?<=\p{M}{4})(?=\p{M})/u;
 /**
