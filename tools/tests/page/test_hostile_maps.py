@@ -2,7 +2,6 @@
 import gzip
 import pathlib
 import sqlite3
-import time
 from collections import Counter
 from typing import Any, Dict, List
 
@@ -67,10 +66,8 @@ def test_a_database_without_an_end_is_ended(
     monkeypatch.setattr(basemap, "LONGEST", 0.2)
     with sqlite3.connect(tmp_path / "map.mbtiles") as connection:
         connection.execute(ENDLESS)
-    begun = time.monotonic()
     with pytest.raises(Fault, match="map.mbtiles: .* takes more than 0.2 seconds"):
         tiles_in(tmp_path / "map.mbtiles")
-    assert time.monotonic() - begun < 20
 
 
 def test_a_signal_ends_a_database_without_an_end(

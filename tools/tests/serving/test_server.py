@@ -4,7 +4,6 @@ import contextlib
 import pathlib
 import ssl
 import subprocess
-import time
 from typing import Awaitable, Callable, List, Optional
 
 import pytest
@@ -16,8 +15,9 @@ from aprsbook_tools.frame_sources import tcp  # noqa: E402
 from aprsbook_tools.serving import server  # noqa: E402
 
 
-def served(ask: Callable[[int], Awaitable[None]], tls: Optional[ssl.SSLContext] = None) -> None:
-    """Asks a server of nothing, which lends patience for half a second."""
+def served(ask: Callable[[int], Awaitable[None]], tls: Optional[ssl.SSLContext] = None,
+           patience: float = 0.5) -> None:
+    """Asks a server of nothing, which waits for who is slow for so many seconds."""
     async def run() -> None:
         its = server.server_of(tornado.web.Application([]), tls, server.Bounds(10, 5, 3), False)
         port = server.listen(its, tcp.Place("127.0.0.1", 0))
@@ -27,8 +27,8 @@ def served(ask: Callable[[int], Awaitable[None]], tls: Optional[ssl.SSLContext] 
             its.stop()
             await its.close_all_connections()
     with pytest.MonkeyPatch.context() as patch:
-        patch.setattr(server, "IDLE", 0.5)
-        patch.setattr(server, "BODY_TIME", 0.5)
+        patch.setattr(server, "IDLE", patience)
+        patch.setattr(server, "BODY_TIME", patience)
         asyncio.run(run())
 
 
@@ -41,9 +41,7 @@ def test_who_says_no_more_is_left(octets: bytes) -> None:
     async def ask(port: int) -> None:
         reader, writer = await asyncio.open_connection("127.0.0.1", port)
         writer.write(octets)
-        begun = time.monotonic()
         await reader.read()
-        assert time.monotonic() - begun < 10
         writer.close()
     served(ask)
 
@@ -59,10 +57,8 @@ def test_who_begins_no_tls_is_left(tmp_path: pathlib.Path, octets: bytes) -> Non
     async def ask(port: int) -> None:
         reader, writer = await asyncio.open_connection("127.0.0.1", port)
         writer.write(octets)
-        begun = time.monotonic()
         with contextlib.suppress(OSError):
             await reader.read()
-        assert time.monotonic() - begun < 10
     served(ask, server.context_of(names))
 
 
@@ -83,7 +79,6 @@ def test_of_an_address_the_oldest_stranger_goes() -> None:
         for _ in range(6):
             reader, _ = await asyncio.open_connection("127.0.0.1", port)
             readers.append(reader)
-        begun = time.monotonic()
         assert await readers[0].read() == b""
-        assert time.monotonic() - begun < 0.4 and not readers[5].at_eof()
-    served(ask)
+        assert not readers[5].at_eof()
+    served(ask, patience=60)
