@@ -8,8 +8,8 @@ use std::marker::Model;
 /// buffered there again.
 pub const MAX_HELD: usize = 16_384;
 
-/// At most `MAX_HELD` bytes, which lie in the value itself. Unlike an `ArrayVec` it writes over none
-/// of them where it is emptied, which happens once for each buffer full.
+/// At most `MAX_HELD` bytes, which lie in the value itself. Unlike an `ArrayVec` it writes over
+/// none of them where it is emptied, which happens once for each buffer full.
 #[derive(Drop)]
 pub(crate) struct HeldBytes {
     bytes: [u8; MAX_HELD],
