@@ -29,9 +29,9 @@ from jobs import Job
 
 TOP = crates.TOP
 ASIDE = TOP / "out" / "before"
-# how long a job takes, in lines that are proved: an edit, the first check for edits, the link of a program,
-# and a make of tests; what a line of a test takes
-EDIT, CHECK, LINK, TEST, LINE_OF_TEST = 160, 600, 2_500, 4_000, 3
+# how long a job takes, in lines of code that are proved, some 0.1 seconds each: a crate of no lines, each
+# crate below one, a check for edits, an edit, the link of the program, and a make of tests
+CRATE, BELOW, CHECK, EDIT, LINK, TEST = 150, 50, 400, 60, 1_800, 2_000
 # so many edits of one crate are tried anew
 DRAWN = 12
 # the target that makes the page of an event, where that can be done
@@ -42,10 +42,8 @@ PROGRAM = "aprsbook"
 
 def size_of(crate: str) -> int:
     """How long the proof of a crate takes, in lines."""
-    lines = sum(it.read_bytes().count(b"\n") for it in crates.files_of(crate))
-    if is_of_tests(crate):
-        return lines * LINE_OF_TEST
-    return lines + LINK * is_program(crate)
+    lines = sum(it.read_bytes().count(b"\n") for it in crates.files_of(crate) if it.suffix == ".rt")
+    return CRATE + BELOW * len(crates.below(crate)) + lines + LINK * (crate == PROGRAM)
 
 
 def is_of_tests(crate: str) -> bool:
@@ -70,7 +68,7 @@ def proofs(names: Sequence[str]) -> Iterator[Job]:
         row = every[name]
         after = frozenset(it for it in row.libraries if it in every)
         command = ["build/prove.sh", name, jobs.JOBS]
-        most = 1 if is_program(name) or is_of_tests(name) else 4
+        most = 1 if is_program(name) or is_of_tests(name) else 2
         yield Job(name, command, after, size_of(name), most)
         if name == PROGRAM:
             yield Job("stored runs", ["build/stored_run.sh"], frozenset([name]))

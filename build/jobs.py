@@ -107,9 +107,14 @@ def ways(jobs: Sequence[Job]) -> Dict[str, int]:
     return found
 
 
+# what part of the longest way of all is as good as the longest
+LONGEST = 0.97
+
+
 class Runner:
-    """Jobs that run on so many processors, what has the longest way before it first, on half of what is free
-    where it can use that."""
+    """Jobs that run on so many processors, what has the longest way before it first. Each has one processor
+    and what nothing else can use. Where the longest way takes longer than all that is left on all
+    processors, what it begins with has two, and shares one with others where fewer are free."""
 
     def __init__(self, jobs: Sequence[Job], processors: int) -> None:
         self.waiting = list(jobs)
@@ -142,21 +147,36 @@ class Runner:
             self.free += processors
             self.changed.notify()
 
+    def share(self, job: Job, others: int) -> int:
+        """How many processors a job begins on now, beside so many others that can begin; 0 for none."""
+        spare = max(1, self.free - others)
+        longest = max(self.ways[it.name] for it in self.waiting)
+        left = sum(it.size for it in self.waiting)
+        if longest * self.processors > left and self.ways[job.name] >= LONGEST * longest:
+            return min(job.most, max(2, spare), self.free + 1)
+        return min(job.most, spare, self.free)
+
+    def begin(self) -> List[threading.Thread]:
+        """Begins what can begin now."""
+        threads = []
+        ready = self.ready()
+        while ready:
+            job = ready.pop(0)
+            processors = self.share(job, len(ready))
+            if processors < 1:
+                break
+            self.waiting.remove(job)
+            self.free -= processors
+            threads.append(threading.Thread(target=self.work, args=(job, processors)))
+            threads[-1].start()
+        return threads
+
     def run(self) -> Tuple[int, int]:
         """Runs all. Returns what passed and what failed; what was left out has failed."""
         threads = []
         with self.changed:
             while self.waiting or self.free < self.processors:
-                ready = self.ready()
-                half = self.free // 2
-                while ready and self.free:
-                    job = ready.pop(0)
-                    share = max(1, self.free // (len(ready) + 1), half)
-                    processors, half = min(job.most, share, self.free), 0
-                    self.waiting.remove(job)
-                    self.free -= processors
-                    threads.append(threading.Thread(target=self.work, args=(job, processors)))
-                    threads[-1].start()
+                threads += self.begin()
                 if self.waiting or self.free < self.processors:
                     self.changed.wait()
         for thread in threads:

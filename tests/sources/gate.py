@@ -83,10 +83,25 @@ class Runs(unittest.TestCase):
         self.assertEqual(run(plan, 8)[0], (4, 0))
         self.assertEqual(run(plan, 3)[0], (3, 0))
 
-    def test_the_longest_way_has_half(self) -> None:
+    def test_the_longest_way_has_two(self) -> None:
         plan = [Job(it, ["echo", "{jobs} passed, 0 failed"], size=size, most=4)
                 for it, size in (("b", 1), ("a", 9), ("c", 1), ("d", 1))]
         self.assertIn("a: 2 passed", run(plan, 4)[1])
+        said = run(plan, 2)[1]
+        self.assertIn("a: 2 passed", said)
+        self.assertNotIn("b: 2 passed", said)
+
+    def test_it_has_one_where_others_take_as_long(self) -> None:
+        plan = [Job(it, ["echo", "{jobs} passed, 0 failed"], size=size, most=4)
+                for it, size in (("a", 5), ("b", 4), ("c", 3))]
+        self.assertNotIn("a: 2 passed", run(plan, 2)[1])
+
+    def test_it_shares_one_with_others(self) -> None:
+        runner = jobs.Runner([Job("long", ["true"], size=9, most=4), says("short", "")], 2)
+        for free, processors in ((2, 2), (1, 2), (0, 1), (-1, 0)):
+            runner.free = free
+            self.assertEqual(runner.share(runner.waiting[0], 1), processors)
+            self.assertEqual(runner.share(runner.waiting[1], 0), min(free, 1))
 
 
 class Aside(unittest.TestCase):
