@@ -11,6 +11,7 @@ found. A fold, and what of it is new to a book, get a million rows in 65 books a
 that don't lie beside the first one are left out. Needs Python 3.9, and takes a minute.
 """
 import datetime
+import functools
 import os
 import pathlib
 import resource
@@ -28,6 +29,7 @@ FOLDED_ROWS = 1_000_000
 FOLDED_BOOKS = 65
 FOLD_MEMORY = 64 << 20
 NOON = datetime.datetime(2024, 5, 1, 12)
+TO_APRS = address("APRS", 0xE0)
 
 
 # ---- what reception n is
@@ -45,13 +47,12 @@ def receiver(n: int) -> str:
 
 def moment(n: int) -> str:
     """When reception n was heard: later ones were heard earlier."""
-    return (NOON - datetime.timedelta(seconds=n)).strftime("%Y-%m-%dT%H:%M:%S.000Z")
+    return (NOON - datetime.timedelta(seconds=n)).isoformat() + ".000Z"
 
 
 def frame(source: str, info: str) -> str:
     """A frame to APRS without digipeaters, in hexadecimal (AX.25, section 3.12)."""
-    head = address("APRS", 0xE0) + address(source, 0x61)
-    return (head + b"\x03\xf0" + info.encode()).hex()
+    return (TO_APRS + address(source, 0x61) + b"\x03\xf0" + info.encode()).hex()
 
 
 def status(n: int) -> str:
@@ -99,6 +100,12 @@ def row(n: int) -> str:
     return f"T {at} {at} {name} {name} {frame(call(n), status(n))}\n"
 
 
+@functools.lru_cache(maxsize=None)
+def all_rows() -> Sequence[str]:
+    """The rows of a million receptions, of which the first are those of the inputs."""
+    return [row(n) for n in range(FOLDED_ROWS)]
+
+
 def book_of(rows: Sequence[str], gap: int = 30) -> str:
     """The book of these rows."""
     return f"APRSBOOK 3 {gap}\n{''.join(rows)}END {len(rows)}\n"
@@ -106,20 +113,21 @@ def book_of(rows: Sequence[str], gap: int = 30) -> str:
 
 def book(gap: int = 30) -> Iterable[str]:
     """The book of all receptions."""
-    yield book_of([row(n) for n in range(ROWS)], gap)
+    yield book_of(all_rows()[:ROWS], gap)
 
 
-def listing() -> Iterable[str]:
+@functools.lru_cache(maxsize=None)
+def listing() -> Sequence[str]:
     """The listing of all receptions."""
-    for n in range(ROWS):
-        yield f"station {call(n)} 1\nstatus {moment(n)} {receiver(n)} -:Hi {n}\n"
+    return [f"station {call(n)} 1\nstatus {moment(n)} {receiver(n)} -:Hi {n}\n" for n in range(ROWS)]
 
 
-def history() -> Iterable[str]:
+@functools.lru_cache(maxsize=None)
+def history() -> Sequence[str]:
     """The history of all receptions."""
-    for n in range(ROWS):
-        at = moment(n)
-        yield f"status {at} {at} {receiver(n)} {call(n)} - -:Hi {n}\n"
+    def line(n: int, at: str) -> str:
+        return f"status {at} {at} {receiver(n)} {call(n)} - -:Hi {n}\n"
+    return [line(n, moment(n)) for n in range(ROWS)]
 
 
 # ---- runs
@@ -142,9 +150,9 @@ def expects(command: Sequence[str], wanted: Iterable[str]) -> None:
 
 def column(table: str, name: str) -> List[str]:
     """A column of a table, by its name."""
-    names, *rows = (line.split("\t") for line in table.splitlines())
-    place = names.index(name)
-    return [row[place] for row in rows]
+    names, *lines = table.splitlines()
+    place = names.split("\t").index(name)
+    return [line.split("\t", place + 1)[place] for line in lines]
 
 
 def expects_column(command: Sequence[str], name: str, wanted: Iterable[str]) -> None:
@@ -183,15 +191,14 @@ def tries_a_long_row(path: str, scratch: pathlib.Path) -> None:
 
 def tries_folds(fold: str, scratch: pathlib.Path) -> None:
     """A million rows in 65 books: their fold, and what of it is new to the first of them."""
-    rows = [row(n) for n in range(FOLDED_ROWS)]
     books = []
     for first in range(FOLDED_BOOKS):
         path = scratch / f"folded{first}.book"
-        path.write_text(book_of(rows[first::FOLDED_BOOKS]), encoding="utf8")
+        path.write_text(book_of(all_rows()[first::FOLDED_BOOKS]), encoding="utf8")
         books.append(str(path))
-    if written([fold, *books], FOLD_MEMORY) != book_of(rows):
+    if written([fold, *books], FOLD_MEMORY) != book_of(all_rows()):
         fail(f"the fold of {FOLDED_ROWS:,} rows in {FOLDED_BOOKS} books is another book")
-    news = [it for n, it in enumerate(rows) if n % FOLDED_BOOKS]
+    news = [it for n, it in enumerate(all_rows()) if n % FOLDED_BOOKS]
     if written([fold, "--new-to", *books], FOLD_MEMORY) != book_of(news):
         fail(f"the news of {FOLDED_ROWS:,} rows in {FOLDED_BOOKS} books are another book")
 
