@@ -52,6 +52,10 @@ sent first last until = record {
 abbrev pub run_of : Message → Sent
 run_of m = record (sent 100 200 None) { message = m }
 
+-- A run of the message `Hi{1}`, which has no id, but the number 1 for reply-acks.
+abbrev pub numbered : Sent
+numbered = run_of (message_to (codes "N0CALL-8") (codes "Hi{1}") None)
+
 -- What is asked of the answers by one station to a number of the other's messages, both N0CALL.
 abbrev pub asked : ℕ → ℕ → List ℕ → Bool → AskedAnswer
 asked source answerer number is_reply = record {

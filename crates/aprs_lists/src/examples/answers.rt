@@ -4,9 +4,9 @@ ghost use Rattle.aprs_summary.specs.declared.lists.message.MessageState.TheVaria
 ghost use Rattle.aprs_summary.specs.declared.lists.reply_ack.ReplyAck.TheVariants.{NotAwaited, Awaited, Heard};
 ghost use Rattle.aprs_lists.specs.Chosen.{chosen, is_early, is_timely};
 ghost use Rattle.aprs_lists.specs.Examples.{message_to};
-ghost use Rattle.aprs_lists.specs.NetExamples.{ack_at, answer_by, coded_ack, rej_at, reply_at, run_of, sent};
+ghost use Rattle.aprs_lists.specs.NetExamples.{ack_at, answer_by, coded_ack, numbered, rej_at, reply_at, run_of, sent};
 ghost use Rattle.aprs_lists.specs.Runs.{Sent};
-ghost use Rattle.aprs_lists.specs.Told.{AreTold, Told, told_found};
+ghost use Rattle.aprs_lists.specs.Told.{AreTold, IsToldRun, Told, sent_told, told_found};
 
 /// Answers count from the first moment less the gap on, and before the next run begins.
 pub fn answers_count_in_the_time_of_a_run()
@@ -58,6 +58,23 @@ pub fn answers_have_two_forms()
         (sent 100 200 None)).settled ≡ Some 110 }
     ensures earlier_rej { (told_found 30 (rej_at 110 ∷ reply_at 120 ∷ [])
         (sent 100 200 None)).outcome ≡ Rejected }
+{}
+
+/// A run is told by its first ack or rej, and by its first reply-ack. Neither counts as the other,
+/// and none is told that wasn't heard.
+pub fn runs_are_told_by_both_forms()
+    ensures ack { IsToldRun 30 (ack_at 110 ∷ []) numbered
+        (sent_told numbered (Some (ack_at 110)) None) }
+    ensures reply { IsToldRun 30 (reply_at 110 ∷ []) numbered
+        (sent_told numbered None (Some (reply_at 110))) }
+    ensures misses_ack_as_reply { IsToldRun 30 (ack_at 110 ∷ []) numbered
+        (sent_told numbered None (Some (ack_at 110))) → ⊥ }
+    ensures misses_reply_as_ack { IsToldRun 30 (reply_at 110 ∷ []) numbered
+        (sent_told numbered (Some (reply_at 110)) None) → ⊥ }
+    ensures misses_ack { IsToldRun 30 [] numbered
+        (sent_told numbered (Some (ack_at 110)) None) → ⊥ }
+    ensures misses_reply { IsToldRun 30 [] numbered
+        (sent_told numbered None (Some (reply_at 110))) → ⊥ }
 {}
 
 /// Among answers in order the first that isn't early is chosen, if it is for the message, and in

@@ -1,7 +1,8 @@
 //! The fields of what a row's frame tells.
-ghost use Rattle.std.specs.Prelude.{◌≡◌, ◌∷◌, ◌++◌, [], map, Some};
+ghost use Rattle.std.specs.Prelude.{◌≡◌, ◌≤◌, ◌+◌, ◌∷◌, ◌++◌, [], map, None, Some};
 ghost use Rattle.std.specs.List.{flat_map};
 ghost use Rattle.std.specs.Option.{option_map};
+ghost use Rattle.arrayvec.specs.ArrayVec.{array_vec_len};
 ghost use Rattle.aprs_details.specs.Frequency.{frequency_view};
 ghost use Rattle.aprs_details.specs.Telemetry.{telemetry_view};
 ghost use Rattle.aprs_io.specs.Outlet.{Puts};
@@ -9,14 +10,22 @@ ghost use Rattle.aprs_table.specs.Cells as Cells;
 ghost use Rattle.aprs_table.specs.Table as Spec;
 ghost use Rattle.aprs_table.specs.Told.{told_view};
 
-use crate::cell::{Cell, put_cells};
+use crate::cell::{Cell, put_cells, put_symbol};
 use crate::told::Told;
 use aprs_details::{
-    CommentTelemetry, Fix, Frequency, SignedPrecision, Telemetry, Transmitter, Weather,
+    CommentTelemetry, Fix, Frequency, MAX_DECIMAL, SignedPrecision, Telemetry, Transmitter,
+    Weather, decimal_degrees_text,
 };
-use aprs_io::{Outlet, WriteFault};
-use aprs_report::{Place, Symbol};
+use aprs_io::{Outlet, WriteFault, push_all, put_shown};
+use aprs_mice::MicEMessage;
+use aprs_report::{Place, Stamp, Symbol};
+use arrayvec::ArrayVec;
+use itoa::Buffer;
 use std::io::Write;
+
+/// The most bytes of the fields of a place: two angles, a number of 40 bytes, the most that `itoa`
+/// writes, a word of 3, and 5 tabs.
+const MAX_PLACE: usize = 2 * MAX_DECIMAL + 48;
 
 /// The fields of a report's name, state and id.
 fn name_cells<'a>(told: &Told<'a>) -> [Cell<'a>; 3]
@@ -135,11 +144,11 @@ fn frequency_cells<'a>(x: Frequency<'a>) -> [Cell<'a>; 3]
     ]
 }
 
-/// The fields of what a frame says: the message of a Mic-E position, and the text.
-fn text_cells<'a>(told: &Told<'a>) -> [Cell<'a>; 2]
-    ensures { map Cells.cell_text result ≡ Cells.text_cells (told_view told.now) }
+/// The field of the message of a Mic-E position, and one with nothing.
+fn says_cells(says: Option<MicEMessage>) -> [Cell<'static>; 2]
+    ensures { map Cells.cell_text result ≡ Cells.says_text says ∷ [] ∷ [] }
 {
-    [Cell::Says(told.says), Cell::Shown(told.text)]
+    [Cell::Says(says), Cell::Plain(b"")]
 }
 
 /// The fields of whether a station takes messages, of whether its fix is current, and of its
@@ -170,27 +179,89 @@ fn phg_cells(phg: Transmitter) -> [Cell<'static>; 4]
 pub fn put_told<W: Write>(out: &mut Outlet<'_, W>, told: &Told<'_>) -> Result<(), WriteFault>
     ensures { Puts W.contents result out.old out.new (Spec.told_text (told_view told.now)) }
 {
-    put_place(out, told)?;
-    put_weather(out, told.weather)?;
-    put_telemetry(out, told.telemetry, told.measured)?;
-    put_text(out, told)?;
-    put_more(out, told)?;
+    put_name(out, told)?;
+    put_where(out, told.fix, told.place, told.symbol)?;
+    put_motion(out, told)?;
+    put_measures(out, told)?;
+    put_shown(out, told.text)?;
     put_end(out, told)
 }
 
-/// Puts the fields of a transmitter, of a frequency and of more digits, each after a tab, and LF.
-/// All that is put at once where none of them is told. Fails where the output is refused.
+/// Puts the fields of weather, of telemetry and of the message of a Mic-E position, each after a
+/// tab, and the tab before the text. All these tabs are put at once where none of them is told.
+/// Fails where the output is refused.
+fn put_measures<W: Write>(out: &mut Outlet<'_, W>, told: &Told<'_>) -> Result<(), WriteFault>
+    ensures { Puts W.contents result out.old out.new
+        (flat_map Spec.after_tab (Cells.weather_cells (Cells.weather_in told.now.weather))
+        ++ (flat_map Spec.after_tab (Cells.measured_cells
+        (option_map telemetry_view told.now.telemetry) told.now.measured)
+        ++ flat_map Spec.after_tab (Cells.says_text told.now.says ∷ [] ∷ []))) }
+{
+    match (told.weather, told.telemetry, told.measured, told.says) {
+        (None, None, None, None) => out.put(b"\t\t\t\t\t\t\t\t\t\t\t\t\t\t\t\t\t\t\t"),
+        _ => put_known_measures(out, told),
+    }
+}
+
+/// Puts the fields of weather, of telemetry and of the message of a Mic-E position, each after a
+/// tab, and the tab before the text. Fails where the output is refused.
+fn put_known_measures<W: Write>(out: &mut Outlet<'_, W>, told: &Told<'_>) -> Result<(), WriteFault>
+    ensures { Puts W.contents result out.old out.new
+        (flat_map Spec.after_tab (Cells.weather_cells (Cells.weather_in told.now.weather))
+        ++ (flat_map Spec.after_tab (Cells.measured_cells
+        (option_map telemetry_view told.now.telemetry) told.now.measured)
+        ++ flat_map Spec.after_tab (Cells.says_text told.now.says ∷ [] ∷ []))) }
+{
+    put_weather(out, told.weather)?;
+    put_telemetry(out, told.telemetry, told.measured)?;
+    put_says(out, told.says)
+}
+
+/// Puts the field of the message of a Mic-E position after a tab, and the tab before the text.
+/// Fails where the output is refused.
+fn put_says<W: Write>(out: &mut Outlet<'_, W>, says: Option<MicEMessage>) -> Result<(), WriteFault>
+    ensures { Puts W.contents result out.old out.new
+        (flat_map Spec.after_tab (Cells.says_text says ∷ [] ∷ [])) }
+{
+    put_cells(out, &says_cells(says))
+}
+
+/// Puts the fields behind the text, each after a tab, and LF. All that is put at once where none of
+/// them is told, but whether a station takes messages. Fails where the output is refused.
 fn put_end<W: Write>(out: &mut Outlet<'_, W>, told: &Told<'_>) -> Result<(), WriteFault>
     ensures { Puts W.contents result out.old out.new
-        (flat_map Spec.after_tab (Cells.phg_cells (told_view told.now).phg)
+        (flat_map Spec.after_tab (Cells.more_cells (told_view told.now))
+        ++ (flat_map Spec.after_tab (Cells.phg_cells (told_view told.now).phg)
         ++ (flat_map Spec.after_tab (Cells.frequency_cells (told_view told.now).frequency)
         ++ (flat_map Spec.after_tab (Cells.finer_cells told.now.place told.now.precision)
-        ++ 10 ∷ []))) }
+        ++ 10 ∷ [])))) }
 {
-    match (told.phg, told.frequency, told.precision) {
-        (None, None, None) => out.put(b"\t\t\t\t\t\t\t\t\t\n"),
-        _ => put_known_end(out, told),
+    match (
+        told.messaging,
+        told.is_current,
+        told.range,
+        told.phg,
+        told.frequency,
+        told.precision,
+    ) {
+        (None, None, None, None, None, None) => out.put(b"\t\t\t\t\t\t\t\t\t\t\t\t\n"),
+        (Some(false), None, None, None, None, None) => out.put(b"\tno\t\t\t\t\t\t\t\t\t\t\t\n"),
+        (Some(true), None, None, None, None, None) => out.put(b"\tyes\t\t\t\t\t\t\t\t\t\t\t\n"),
+        _ => put_said_end(out, told),
     }
+}
+
+/// Puts the fields behind the text, each after a tab, and LF. Fails where the output is refused.
+fn put_said_end<W: Write>(out: &mut Outlet<'_, W>, told: &Told<'_>) -> Result<(), WriteFault>
+    ensures { Puts W.contents result out.old out.new
+        (flat_map Spec.after_tab (Cells.more_cells (told_view told.now))
+        ++ (flat_map Spec.after_tab (Cells.phg_cells (told_view told.now).phg)
+        ++ (flat_map Spec.after_tab (Cells.frequency_cells (told_view told.now).frequency)
+        ++ (flat_map Spec.after_tab (Cells.finer_cells told.now.place told.now.precision)
+        ++ 10 ∷ [])))) }
+{
+    put_more(out, told)?;
+    put_known_end(out, told)
 }
 
 /// Puts the fields of a transmitter, of a frequency and of more digits, each after a tab, and LF.
@@ -208,37 +279,21 @@ fn put_known_end<W: Write>(out: &mut Outlet<'_, W>, told: &Told<'_>) -> Result<(
     out.put(b"\n")
 }
 
-/// Puts the fields of what and where something is and of how it moves, each after a tab. Fails
-/// where the output is refused.
-fn put_place<W: Write>(out: &mut Outlet<'_, W>, told: &Told<'_>) -> Result<(), WriteFault>
-    ensures { Puts W.contents result out.old out.new
-        (flat_map Spec.after_tab (Cells.place_cells (told_view told.now))) }
-{
-    put_name(out, told)?;
-    put_where(out, told.fix, told.place, told.symbol)?;
-    put_motion(out, told)
-}
-
-/// Puts the fields of a report's name, state and id, each after a tab. Fails where the output is
-/// refused.
+/// Puts the fields of a report's name, state and id, each after a tab; the tabs at once where they
+/// are empty. Fails where the output is refused.
 fn put_name<W: Write>(out: &mut Outlet<'_, W>, told: &Told<'_>) -> Result<(), WriteFault>
     ensures { Puts W.contents result out.old out.new
         (flat_map Spec.after_tab (Cells.name_cells (told_view told.now))) }
 {
+    if told.name.is_empty() && told.state.is_empty() && told.id.is_empty() {
+        return out.put(b"\t\t\t");
+    }
     put_cells(out, &name_cells(told))
 }
 
-/// Puts the fields of what a frame says, the message of a Mic-E position and the text, each after a
-/// tab. Fails where the output is refused.
-fn put_text<W: Write>(out: &mut Outlet<'_, W>, told: &Told<'_>) -> Result<(), WriteFault>
-    ensures { Puts W.contents result out.old out.new
-        (flat_map Spec.after_tab (Cells.text_cells (told_view told.now))) }
-{
-    put_cells(out, &text_cells(told))
-}
-
 /// Puts the fields of where something is, each after a tab; the tabs at once where no fix, place or
-/// symbol is told. Fails where the output is refused.
+/// symbol is told, and all but the symbol at once for a place alone. Fails where the output is
+/// refused.
 fn put_where<W: Write>(
     out: &mut Outlet<'_, W>,
     fix: Option<Fix>,
@@ -250,13 +305,74 @@ fn put_where<W: Write>(
 {
     match (fix, place, symbol) {
         (None, None, None) => out.put(b"\t\t\t\t\t"),
+        (None, Some(place), _) => put_there(out, &place, &symbol),
         _ => put_cells(out, &where_cells(fix, place, symbol)),
     }
 }
 
+/// Puts the fields of a place and of what it is shown as, each after a tab. Fails where the output
+/// is refused.
+fn put_there<W: Write>(
+    out: &mut Outlet<'_, W>,
+    place: &Place,
+    symbol: &Option<Symbol>,
+) -> Result<(), WriteFault>
+    ensures { Puts W.contents result out.old out.new
+        (flat_map Spec.after_tab (Cells.where_cells None (Some place.now) symbol.now)) }
+{
+    out.put(place_text(place).as_slice())?;
+    put_symbol(out, symbol)
+}
+
+/// The fields of a place, each after a tab, and the tab before the symbol.
+fn place_text(place: &Place) -> ArrayVec<u8, MAX_PLACE>
+    ensures { result.items ≡ flat_map Spec.after_tab
+        (Cells.latitude_field (Some place.now) ∷ Cells.longitude_field (Some place.now)
+        ∷ Cells.ambiguity_field (Some place.now) ∷ Cells.compressed_field (Some place.now)
+        ∷ [] ∷ []) }
+{
+    let mut text = ArrayVec::new();
+    text.push(b'\t');
+    push_all(&mut text, decimal_degrees_text(&place.lat()).as_slice());
+    text.push(b'\t');
+    push_all(&mut text, decimal_degrees_text(&place.lon()).as_slice());
+    text.push(b'\t');
+    push_form(&mut text, place);
+    text
+}
+
+/// Puts the fields of how many digits a place leaves out and of whether it is compressed, and the
+/// tab before the symbol, at the end of `out`.
+fn push_form(out: &mut ArrayVec<u8, MAX_PLACE>, place: &Place)
+    requires { array_vec_len out.old + 45 ≤ 212 }
+    ensures { out.new.items ≡ out.old.items ++ (Cells.ambiguity_field (Some place.now)
+        ++ (9 ∷ Cells.compressed_field (Some place.now) ++ 9 ∷ [])) }
+{
+    match place {
+        Place::Plain { ambiguity, .. } => {
+            push_all(out, Buffer::new().format(*ambiguity).as_bytes());
+            push_all(out, b"\tno\t");
+        }
+        Place::Base91 { .. } => push_all(out, b"\tyes\t"),
+    }
+}
+
+/// The fields of a time stamp, and of a course, a speed and an altitude that are unknown, each after
+/// a tab.
+fn stamp_text(stamp: &Stamp) -> ArrayVec<u8, 11>
+    ensures { result.items ≡ flat_map Spec.after_tab
+        (Cells.stamp_field (Some stamp.now) ∷ [] ∷ [] ∷ [] ∷ []) }
+{
+    let mut text = ArrayVec::new();
+    text.push(b'\t');
+    push_all(&mut text, &stamp.text());
+    push_all(&mut text, b"\t\t\t");
+    text
+}
+
 /// Puts the fields of a report's time stamp, and of its subject's course, speed and altitude, each
-/// after a tab. The tabs are put at once where none of them is known. Fails where the output is
-/// refused.
+/// after a tab. All that is put at once where none of them, or only a stamp, is known. Fails where the
+/// output is refused.
 fn put_motion<W: Write>(out: &mut Outlet<'_, W>, told: &Told<'_>) -> Result<(), WriteFault>
     ensures { Puts W.contents result out.old out.new
         (flat_map Spec.after_tab (Cells.motion_cells (told_view told.now))) }
@@ -268,6 +384,7 @@ fn put_motion<W: Write>(out: &mut Outlet<'_, W>, told: &Told<'_>) -> Result<(), 
         told.altitude,
     ) {
         (None, None, None, None) => out.put(b"\t\t\t\t"),
+        (Some(stamp), None, None, None) => out.put(stamp_text(&stamp).as_slice()),
         _ => put_cells(out, &motion_cells(told)),
     }
 }

@@ -1,4 +1,4 @@
-use Rattle.aprs_lists.proofs.Common.{◌≡◌, ◌<◌, ◌≤◌, ◌⊎◌, ℕ, arith, inl, inr, refl}
+use Rattle.aprs_lists.proofs.Common.{◌<◌, ◌≤◌, ℕ, arith, inl, inr, refl}
 use Rattle.aprs_lists.specs.Examples.{IsZeroOrTwenty}
 use Rattle.aprs_lists.proofs.examples.net.runs_are_bounded_by_the_gap.Goals as goal
 
