@@ -230,8 +230,9 @@ test("whose lines there are is said, and they go at once after a question", { sk
     ["1 line of your own take all away", "1 line of 27.html take all away"]);
 });
 test("of thousands of lines those are there that are in view, or on paper", { skip }, () => {
-  const lines = Array.from({ length: 30000 }, (_, k) =>
-    ({ at: at(k % 7000) + 1.7e9, from: "a", to: "b", id: "", text: `no. ${k}` }));
+  // of texts so long a sheet has three
+  const lines = Array.from({ length: 3000 }, (_, k) =>
+    ({ at: at(k) + 1.7e9, from: "a", to: "b", id: "", text: `no. ${k} `.padEnd(560, ".") }));
   page.own.offer("many.html", lines);
   page.own.answer("many.html", true);
   page.widgets.form.draw();
@@ -242,5 +243,5 @@ test("of thousands of lines those are there that are in view, or on paper", { sk
   assert.match(sheets[5].style.minHeight, /^\d+pt$/);
   dispatchEvent(new Event("beforeprint"));
   assert.equal(filled(), 200);
-  assert.match(byId("ics-rest").textContent, /^and 2\d,\d{3} lines more/);
+  assert.match(byId("ics-rest").textContent, /^and 2,\d{3} lines more/);
 });
