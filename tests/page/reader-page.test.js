@@ -48,6 +48,17 @@ test("the page begins without a log, and says that it is ready", { skip }, () =>
     "listing (text)", "page of the event (HTML)"]);
   assert.equal(byId("book").disabled, true);
 });
+test("what folds has a name", { skip }, () => {
+  const names = [...document.querySelectorAll("details")].map(it => it.getAttribute("aria-label"));
+  assert.ok(names.length >= 4 && names.every(Boolean), names.join());
+});
+test("an empty file that should be packed is said to be none", { skip }, async () => {
+  await aprsfiles.add([fileOf("cut.log.gz", ""), fileOf("new.log", "")]);
+  assert.deepEqual(verdicts(),
+    { "cut.log.gz": "is empty, which no gzip is", "new.log": "heard 0 passed 0" });
+  assert.equal(byId("fold").open, true);
+  takeAway("cut.log.gz", "new.log");
+});
 test("logs are checked, merged and drawn, and what is none says why", { skip }, async () => {
   await aprsfiles.add([fileOf("hill.log", logOf("18:00:00", "HILL") + logOf("18:05:00", "HILL")),
     fileOf("coast.log", logOf("18:00:02", "COAST")), fileOf("x.pdf", "%PDF-1.7")]);

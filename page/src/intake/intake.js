@@ -39,7 +39,7 @@ export const SHOWN = 50;
 /** So many bytes at the beginning of a file say what it is. */
 const HEAD = 65536;
 export const asText = (/** @type {Uint8Array} */ bytes) => new TextDecoder("latin1").decode(bytes);
-const EMPTY_BOOK = "is empty, which no book is";
+const EMPTY_BOOK = "is empty, which no book is", EMPTY_GZIP = "is empty, which no gzip is";
 const NO_CAPTURE = "the receiver isn't written as RX1, or the moment as 2024-06-21T18:00:00Z";
 /**
  * A fault of an input, as the program says it.
@@ -117,6 +117,8 @@ export async function take(file, bring) {
   const unread = (/** @type {string} */ why, kind = "file") =>
     fileOf(file.name, kind, new Uint8Array(), { unread: why });
   try {
+    // what packs nothing has a head all the same
+    if (!file.size && /\.gz$/i.test(file.name)) return unread(EMPTY_GZIP, "an archive");
     const { head, all } = await bytesOf(file), { bytes: begin, spelling } = spelled(head);
     if (isPacked(begin)) return unread("is packed by gzip twice: unpack it once", "an archive");
     const kind = kindOf(begin, file.name.replace(/\.gz$/i, ""));
