@@ -67,18 +67,40 @@ test("a message is marked as dealt with, by all its lists", { skip }, () => {
   button("#messages", "take back").click();
   assert.ok(newsOf("1 message unanswered"));
 });
-test("where a mark is set or taken back the keyboard stays with it", { skip }, () => {
-  const wordsNow = () => document.activeElement.getAttribute("aria-label") || "";
-  const press = (box, words) => {
-    button(box, words).focus();
+const wordsNow = () => document.activeElement.getAttribute("aria-label") || "";
+/** Presses a button by its words, and gives what has the keyboard then, as it is called. */
+const press = (box, words) => {
+  button(box, words).focus();
+  document.activeElement.click();
+  return wordsNow();
+};
+const RIDE = "message from Q1OLD to Q1NET, ride 7 down";
+const MEDICS = "message from Q1NET to Q1OLD, medics";
+test("where a message is dealt with the keyboard goes to the next one, and at last to the list",
+  { skip }, () => {
+    assert.equal(press("#messages", "dealt with"), `dealt with: ${MEDICS}`);
     document.activeElement.click();
-    return wordsNow();
-  };
-  assert.match(press("#messages", "dealt with"), /^take back: message Q1OLD Q1NET 1 /);
-  assert.match(press("#messages", "take back"), /^dealt with: message Q1OLD Q1NET 1 /);
+    assert.equal(document.activeElement, byId("messages"));
+    assert.deepEqual(textsOf("#messages tbody .deal"), ["take back", "take back"]);
+    // what is taken back keeps it
+    assert.equal(press("#messages", "take back"), `dealt with: ${MEDICS}`);
+    assert.equal(press("#messages", "take back"), `dealt with: ${RIDE}`);
+    // behind the last one there is that before it
+    [...document.querySelectorAll("#messages .deal")].at(-1).focus();
+    assert.equal(wordsNow(), `dealt with: ${MEDICS}`);
+    document.activeElement.click();
+    assert.equal(wordsNow(), `dealt with: ${RIDE}`);
+    button("#messages", "take back").click();
+  });
+test("a key that is held down deals with no other message", { skip }, () => {
+  const pressed = repeat => button("#messages", "dealt with").dispatchEvent(
+    new KeyboardEvent("keydown", { key: "Enter", repeat, bubbles: true, cancelable: true }));
+  assert.deepEqual([pressed(false), pressed(true)], [true, false]);
+});
+test("where a mark is set in the panel or taken back the keyboard stays with it", { skip }, () => {
   [...document.querySelectorAll("#things .pick")].find(it => it.textContent === "Q1HOME").click();
-  assert.equal(press("#one-about", "went home"), "take back: home Q1HOME");
-  assert.equal(press("#one-about", "take back"), "went home: home Q1HOME");
+  assert.equal(press("#one-about", "went home"), "take back: Q1HOME");
+  assert.equal(press("#one-about", "take back"), "went home: Q1HOME");
 });
 test("where the browser keeps no marks the page says so, and asks before it is left", { skip },
   () => {
