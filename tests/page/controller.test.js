@@ -3,6 +3,7 @@ import assert from "node:assert/strict";
 import { test } from "node:test";
 import { byId, enter, IN_VIEW, open, skip, textsOf, until } from "./window.js";
 import { message, messageTable, place, row, table } from "./tables.js";
+import { Journal } from "../../page/src/desks/journal.js";
 
 /** The net goes on: its last transmission was heard a minute ago. */
 const FROM = Math.round(Date.now() / 1000) - 7260 - Date.UTC(2024, 5, 21, 18) / 1000;
@@ -96,6 +97,18 @@ test("a key that is held down deals with no other message", { skip }, () => {
   const pressed = repeat => button("#messages", "dealt with").dispatchEvent(
     new KeyboardEvent("keydown", { key: "Enter", repeat, bubbles: true, cancelable: true }));
   assert.deepEqual([pressed(false), pressed(true)], [true, false]);
+});
+test("what is marked in another tab is marked in this one at once", { skip }, () => {
+  const { key } = page.marks, tab = new Journal("", async () => null, localStorage, Date.now, key);
+  const alarm = button("#messages", "dealt with").dataset.alarm;
+  const hear = () => dispatchEvent(new globalThis.window.StorageEvent("storage", { key }));
+  const id = tab.add("dealt", { alarm, note: "" });
+  assert.ok(newsOf("1 message unanswered"));
+  hear();
+  assert.ok(newsOf("0 messages unanswered"));
+  tab.remove(id);
+  hear();
+  assert.ok(newsOf("1 message unanswered"));
 });
 test("where a mark is set in the panel or taken back the keyboard stays with it", { skip }, () => {
   [...document.querySelectorAll("#things .pick")].find(it => it.textContent === "Q1HOME").click();
