@@ -218,6 +218,28 @@ test("a log that has grown takes its older one's place, and what is new is marke
     byId("looked").click();
     assert.equal(byId("looked").hidden, true);
   });
+test("a log that is read while its last line is written stays, and has that line later", { skip },
+  async () => {
+    const first = logOf("18:00:00", "MOOR"), more = logOf("18:31:00", "MOOR", "Q1M");
+    const give = text => aprsfiles.add([fileOf("moor.log", text)]);
+    const heard = () => verdicts()["moor.log"];
+    // at first it is asked for, since nobody knows that the log grows
+    await give(first + more.slice(0, 30));
+    assert.equal(heard(), "line 2: NoNewline");
+    await give(first + more.slice(0, 40));
+    assert.equal(heard(), "heard 1 passed 0");
+    assert.ok(aprsbook.data.notes
+      .includes("moor.log: its last line isn\u2019t whole yet, and is left out"));
+    await give(first + more + more.slice(0, 9));
+    assert.equal(heard(), "heard 2 passed 0");
+    // what else is wrong is asked for all the same
+    await give(first + more + "torn\n" + more);
+    assert.match(heard(), /^line 3: /);
+    await give(first + more + "torn\n" + more + more);
+    assert.match(heard(), /^line 3: /);
+    takeAway("moor.log");
+    await until(() => !verdicts()["moor.log"]);
+  });
 test("a log whose handle the browser gave is read again as it grows", { skip }, async () => {
   const { reread } = await import("../../page/src/intake/reread.js");
   let text = logOf("18:00:00", "COAST"), at = 1;

@@ -20,12 +20,14 @@ import { bytesIn, isSameSource, limits, sizeOf } from "../worker/sources.js";
  * lines of them were left out, and `taken` what goes into the book, or null; `unread` says why it
  * can't be read at all. `ready` are the bytes of a file that were
  * read for a check, and are the next book's. Of the lines that were passed over, so many, no more
- * than the first are kept.
+ * than the first are kept. A log `grows` that was given again, and `isUnfinished` where its last
+ * line waits for its end.
  * @typedef {{ name: string, kind: string, bytes: Source, unread: string, receiver: string,
  *   moment: string, passed: string[], over: number, said: string, fault: string, reason: string,
  *   spelling: string[], damage: Damage[], leftOut: string[], taken: Source | null,
  *   ready?: Uint8Array, lines?: import("../ics309/own-lines.js").Line[], row?: HTMLTableRowElement,
  *   whole?: Uint8Array, mark?: string, away?: string, looking?: Promise<void>, given?: Source,
+ *   grows?: boolean, isUnfinished?: boolean,
  *   handle?: FileSystemFileHandle }} Given what a browser reads a file again by is its handle
  */
 
@@ -95,7 +97,8 @@ export async function isGrown(older, it) {
  */
 export function takePlace(older, it) {
   const { bytes, spelling, handle, mark } = it;
-  Object.assign(older, { bytes, spelling, taken: null, given: undefined, handle, mark });
+  Object.assign(older,
+    { bytes, spelling, taken: null, given: undefined, handle, mark, grows: true });
 }
 /** Whether gzip packed what begins so. */
 const isPacked = (/** @type {Uint8Array} */ head) => head[0] === 0x1f && head[1] === 0x8b;
@@ -273,6 +276,12 @@ const atHand = ({ bytes }) => /** @type {Uint8Array} */ (bytes);
  */
 export const lineText = (file, { begin, end }) =>
   new TextDecoder().decode(atHand(file).subarray(begin, Math.min(end, begin + 200))).trimEnd();
+/**
+ * Whether a log that grows was read while its last line was written, and nothing else is wrong.
+ * @param {Given} file
+ */
+export const isBeingWritten = ({ grows = false, damage }) =>
+  grows && damage.length === 1 && damage[0].why === "NoNewline";
 /**
  * Leaves out the lines that are refused.
  * @param {Given} file
