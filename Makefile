@@ -75,11 +75,14 @@ words:
 	tests/sources/gate.py
 	tests/sources/system_c.sh
 
-# the parts of the page that need no browser, and their types, each where its tool is there
+# the parts of the page that need no browser, and their types, each where its tool is there: tests/page/together
+# runs most files in few processes, and what has a window has one for each file
 page-tests:
 	@mkdir -p out
-	@if command -v node > /dev/null; then node --test tests/page/*.test.js > out/page-tests.txt || \
-	    { cat out/page-tests.txt; exit 1; }; grep -E '^# (pass|fail)' out/page-tests.txt; \
+	@if command -v node > /dev/null; then \
+	    node --test tests/page/together/*.js $$(grep -l '"./window.js"' tests/page/*.test.js) \
+	    > out/page-tests.txt || { cat out/page-tests.txt; exit 1; }; \
+	    grep -E '^# (pass|fail)' out/page-tests.txt; \
 	else echo 'left out: the tests of the page (no node is there)'; fi
 	@if command -v tsc > /dev/null; then tsc -p page; \
 	else echo 'left out: the types of the page (no tsc is there)'; fi

@@ -188,7 +188,8 @@ import sqlite3, sys
 path, form, size = sys.argv[1:4]
 base = sqlite3.connect(path)
 base.execute("PRAGMA page_size = " + size)
-picture = lambda z, x, y: bytes([0x89, 80, 78, 71, z, x, y]) * (1 + 97 * (x + y))
+wide = min(97, int(size) // 100)
+picture = lambda z, x, y: bytes([0x89, 80, 78, 71, z, x, y]) * (1 + wide * (x + y))
 if form == "vector": picture = lambda z, x, y: bytes([31, 139])
 base.execute("CREATE TABLE metadata (name text, value text)")
 all = [(z, x, y) for z in range(2, 6) for x in range(2 ** z) for y in range(2 ** z) if x or y]
@@ -221,20 +222,26 @@ const hasPython = spawnSync("python3", ["-c", "import sqlite3"]).status === 0;
 function made(form, size = 4096) {
   const folder = fs.mkdtempSync(path.join(os.tmpdir(), "mbtiles-")), name = path.join(folder, "it");
   execFileSync("python3", ["-c", MAKE, name, form, String(size)]);
-  const blob = new Blob([fs.readFileSync(name)]);
+  const bytes = fs.readFileSync(name);
   fs.rmSync(folder, { recursive: true });
-  return blob;
+  return bytes;
 }
-for (const [form, size] of [["index", 4096], ["key", 512], ["map", 1024], ["index", 65536],
-  ["capital", 4096]])
+const blobOf = bytes => new Blob([bytes]);
+/** What a database is read by, as of a Blob, whose slices are dear in Node. */
+const slicesOf = bytes => ({ size: bytes.length, slice: (from, to) =>
+  ({ arrayBuffer: async () => new Uint8Array(bytes.subarray(from, to)).buffer }) });
+/** A picture of the largest in pages of a few KiB goes on in some four others. */
+const wideIn = size => Math.min(97, Math.floor(size / 100));
+for (const [form, size, of] of [["index", 4096, blobOf], ["key", 512, slicesOf],
+  ["map", 1024, slicesOf], ["index", 65536, slicesOf], ["capital", 4096, slicesOf]])
   test(`tiles of MBTiles, ${form} in pages of ${size}`, { skip: !hasPython }, async () => {
-    const it = await openMbtiles(made(form, size));
+    const it = await openMbtiles(of(made(form, size))), wide = wideIn(size);
     assert.deepEqual([it.least, it.most], [2, 5]);
     for (const [z, x, y] of [2, 3, 4, 5].flatMap(level => tilesAt(level, 2 ** level))) {
       const blob = await it.read(z, x, y);
       if (!x && !y) assert.equal(blob, null);
       else {
-        const bytes = new Uint8Array(await blob.arrayBuffer()), count = 1 + 97 * (x + y);
+        const bytes = new Uint8Array(await blob.arrayBuffer()), count = 1 + wide * (x + y);
         assert.equal(bytes.length, 7 * count);
         assert.deepEqual([...bytes.subarray(-7)], [0x89, 80, 78, 71, z, x, y]);
       }
@@ -260,12 +267,14 @@ test("a database whose pages stand several times in one tree is damaged", async 
   await assert.rejects(openSqlite(new Blob([bytes])), /damaged/);
 });
 test("a database that can't be drawn says why", { skip: !hasPython }, async () => {
-  await assert.rejects(openMbtiles(made("vector")), /no pictures/);
-  await assert.rejects(openMbtiles(made("none")), /no index by zoom_level, tile_column, tile_row/);
-  await assert.rejects(openSqlite(made("index").slice(0, 99)), /cut short/);
-  const torn = openMbtiles(made("index").slice(0, 40960));
+  const index = made("index");
+  await assert.rejects(openMbtiles(blobOf(made("vector"))), /no pictures/);
+  await assert.rejects(openMbtiles(blobOf(made("none"))),
+    /no index by zoom_level, tile_column, tile_row/);
+  await assert.rejects(openSqlite(blobOf(index.subarray(0, 99))), /cut short/);
+  const torn = openMbtiles(blobOf(index.subarray(0, 40960)));
   await assert.rejects(torn.then(it => it.read(5, 31, 31)), /cut short/);
-  await assert.rejects(openMbtiles(made("index").slice(0, 4096)), /cut short|damaged/);
+  await assert.rejects(openMbtiles(blobOf(index.subarray(0, 4096))), /cut short|damaged/);
 });
 test("an archive of tiles that is opened is said, and painted", async () => {
   let paints = 0;

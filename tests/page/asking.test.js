@@ -19,13 +19,15 @@ const textOf = ({ bytes }) => Buffer.from(bytes).toString();
 
 test("what comes slowly is read to its end, and what stops is given up", async () => {
   const parts = async (_, response) => {
-    for (const part of "abcdefgh") {
+    for (const part of "abcdefghijklmnop") {
       response.write(part);
       await after(250);
     }
     response.end();
   };
-  await served(parts, async url => assert.equal(textOf(await askFor(url, 1500)), "abcdefgh"));
+  // a machine that is busy elsewhere is late with a part by up to 2.7 s
+  await served(parts, async url =>
+    assert.equal(textOf(await askFor(url, 3000)), "abcdefghijklmnop"));
   const stops = (_, response) => response.write("a");
   await served(stops, url => assert.rejects(askFor(url, 300), /^Error: no answer within 0.3 s$/));
 });

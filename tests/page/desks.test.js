@@ -142,6 +142,22 @@ test("two windows of a desk lose nothing, and a browser that keeps nothing says 
   it.addLine(LINE);
   assert.deepEqual([it.isStored, it.lines.length], [false, 1]);
 });
+test("tabs of a page by itself have one another's marks, and what it carries stays kept", () => {
+  const store = storeOf(), open = () => new Journal("", async () => null, store, Date.now, "marks");
+  const one = open(), other = open(), alarms = it => [...it.marks.keys()];
+  let heard = 0;
+  other.onChange = () => heard++;
+  one.add("dealt", { alarm: "silent Q1A", note: "" });
+  assert.deepEqual([other.unite(), other.unite(), heard, alarms(other)],
+    [true, false, 1, ["silent Q1A"]]);
+  other.add("dealt", { alarm: "silent Q1B", note: "" });
+  // a saved page carries them, and the page of which it was saved has them from the store alone
+  const saved = open();
+  saved.unite([...other.entries.keys()].join("\n"));
+  saved.add("dealt", { alarm: "silent Q1C", note: "" });
+  one.add("dealt", { alarm: "silent Q1D", note: "" });
+  assert.deepEqual(alarms(open()).sort(), "ABCD".split("").map(it => `silent Q1${it}`));
+});
 test("a page hears of what is new, of its own desk and of others", () => {
   const it = new Journal("A", async () => null, storeOf());
   let times = 0;

@@ -40,9 +40,17 @@ test("who has the keyboard among those in need keeps it where one of them is dea
   drawNews();
   assert.ok(labels().length === 2 && first !== second);
   assert.equal(document.activeElement.dataset.alarm, second);
+  // the next one in its place, or that before it: a link, where a key held down does nothing
+  urgent.querySelectorAll("button")[0].focus();
   take([sos(1, "Q1A")]);
   drawNews();
-  assert.ok(urgent.contains(document.activeElement));
+  assert.match(document.activeElement.textContent, /^EMERGENCY: Q1A/);
+  take([sos(1, "Q1A"), sos(2, "Q1B")]);
+  drawNews();
+  urgent.querySelectorAll("button")[1].focus();
+  take([sos(2, "Q1B")]);
+  drawNews();
+  assert.match(document.activeElement.textContent, /^EMERGENCY: Q1B/);
   take([place(0, "Q1A", 54, -3)]);
   drawNews();
   assert.equal(document.activeElement, document.getElementById("ics-close"));

@@ -46,6 +46,32 @@ test("several inputs are one book, under the gap that is asked for", { skip }, (
   assert.equal(done("merge", 30, text, "", RX1).text, text);
   assert.equal(done("widen", 60, text).text.split("\n")[0], "APRSBOOK 3 60");
 });
+/**
+ * Calls `run` with one instance in place of one for each run, which takes thirty times as long.
+ * The runs of the library for C share a memory too.
+ */
+function inOneInstance(run) {
+  const { Instance } = WebAssembly, one = new Instance(module);
+  WebAssembly.Instance = class { constructor() { return one; } };
+  try {
+    return run();
+  } finally {
+    WebAssembly.Instance = Instance;
+  }
+}
+/** The texts with another byte at a place, 256 at each place, one after the other in one array. */
+function* changesOf(text) {
+  const bytes = bytesOf(text);
+  for (const at of bytes.keys()) {
+    const was = bytes[at];
+    for (let byte = 0; byte < 256; byte++) {
+      bytes[at] = byte;
+      yield { bytes, at, byte };
+    }
+    bytes[at] = was;
+  }
+}
+const merged = bytes => run(module, "merge", 30, [bytes]);
 test("a text with any byte at any place is refused, or is that of its book", { skip },
   () => {
     const one = "APRSBOOK 3 30\nT 2024-05-01T12:00:00.000Z 2024-05-01T12:00:00.000Z RX1 RX1 "
@@ -54,23 +80,22 @@ test("a text with any byte at any place is refused, or is that of its book", { s
       + "82a0a4a64040e09c60868298986eae92888a6240e303f03e4869\n"
       + "T 2099-12-31T23:59:59.000Z 2099-12-31T23:59:59.000Z RX2 RX2 "
       + "82a0a4a64040e09c60868298986f03f03e4869\nEND 2\n";
-    const counts = [one, two].map(text => {
-      const bytes = bytesOf(text), found = { refused: 0, taken: 0 };
-      for (const at of bytes.keys()) {
-        const was = bytes[at];
-        for (bytes[at] = 0; ; bytes[at]++) {
-          const { status, fault, bytes: written } = run(module, "merge", 30, [bytes]);
-          if (status) assert.notEqual(fault, "", `${at} ${bytes[at]}`);
-          else assert.deepEqual(Buffer.from(written), Buffer.from(bytes), `${at} ${bytes[at]}`);
-          found[status ? "refused" : "taken"]++;
-          if (bytes[at] === 255) break;
-        }
-        bytes[at] = was;
+    const counts = [one, two].map(text => inOneInstance(() => {
+      const found = { refused: 0, taken: 0 };
+      for (const { bytes, at, byte } of changesOf(text)) {
+        const { status, fault, bytes: written } = merged(bytes);
+        if (status) assert.notEqual(fault, "", `${at} ${byte}`);
+        else assert.deepEqual(Buffer.from(written), Buffer.from(bytes), `${at} ${byte}`);
+        found[status ? "refused" : "taken"]++;
       }
       return found;
-    });
+    }));
     assert.deepEqual(counts.map(it => it.refused + it.taken), [256 * one.length, 256 * two.length]);
     assert.ok(counts.every(it => it.taken > one.length));
+    // at each place one of them in an instance of its own, which says the same
+    for (const { bytes, at, byte } of changesOf(one))
+      if (byte === 13 * at % 256)
+        assert.deepEqual(merged(bytes), inOneInstance(() => merged(bytes)), `${at} ${byte}`);
   });
 test("a fault names the input, the line and the cause", { skip }, () => {
   const { status, input, line: at, fault } = done("merge", 30, RX1, RX1 + "torn\n", "torn\n");

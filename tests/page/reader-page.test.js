@@ -48,6 +48,17 @@ test("the page begins without a log, and says that it is ready", { skip }, () =>
     "listing (text)", "page of the event (HTML)"]);
   assert.equal(byId("book").disabled, true);
 });
+test("what folds has a name", { skip }, () => {
+  const names = [...document.querySelectorAll("details")].map(it => it.getAttribute("aria-label"));
+  assert.ok(names.length >= 4 && names.every(Boolean), names.join());
+});
+test("an empty file that should be packed is said to be none", { skip }, async () => {
+  await aprsfiles.add([fileOf("cut.log.gz", ""), fileOf("new.log", "")]);
+  assert.deepEqual(verdicts(),
+    { "cut.log.gz": "is empty, which no gzip is", "new.log": "heard 0 passed 0" });
+  assert.equal(byId("fold").open, true);
+  takeAway("cut.log.gz", "new.log");
+});
 test("logs are checked, merged and drawn, and what is none says why", { skip }, async () => {
   await aprsfiles.add([fileOf("hill.log", logOf("18:00:00", "HILL") + logOf("18:05:00", "HILL")),
     fileOf("coast.log", logOf("18:00:02", "COAST")), fileOf("x.pdf", "%PDF-1.7")]);
@@ -206,6 +217,28 @@ test("a log that has grown takes its older one's place, and what is new is marke
     assert.match(byId("looked").textContent, /^1 new since/);
     byId("looked").click();
     assert.equal(byId("looked").hidden, true);
+  });
+test("a log that is read while its last line is written stays, and has that line later", { skip },
+  async () => {
+    const first = logOf("18:00:00", "MOOR"), more = logOf("18:31:00", "MOOR", "Q1M");
+    const give = text => aprsfiles.add([fileOf("moor.log", text)]);
+    const heard = () => verdicts()["moor.log"];
+    // at first it is asked for, since nobody knows that the log grows
+    await give(first + more.slice(0, 30));
+    assert.equal(heard(), "line 2: NoNewline");
+    await give(first + more.slice(0, 40));
+    assert.equal(heard(), "heard 1 passed 0");
+    assert.ok(aprsbook.data.notes
+      .includes("moor.log: its last line isn\u2019t whole yet, and is left out"));
+    await give(first + more + more.slice(0, 9));
+    assert.equal(heard(), "heard 2 passed 0");
+    // what else is wrong is asked for all the same
+    await give(first + more + "torn\n" + more);
+    assert.match(heard(), /^line 3: /);
+    await give(first + more + "torn\n" + more + more);
+    assert.match(heard(), /^line 3: /);
+    takeAway("moor.log");
+    await until(() => !verdicts()["moor.log"]);
   });
 test("a log whose handle the browser gave is read again as it grows", { skip }, async () => {
   const { reread } = await import("../../page/src/intake/reread.js");

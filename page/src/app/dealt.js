@@ -26,13 +26,17 @@ export function openMarks(title, given, onChange) {
   if (page.marks?.key !== key) page.marks = new Journal("", keepHere, storeOf(), Date.now, key);
   const marks = page.marks;
   marks.onChange = () => {}; // what is given is drawn with all else
-  marks.hear(given);
+  marks.unite(given);
   marks.onChange = () => {
     if (marks.isAtRisk !== isTold) tell(marks.isAtRisk ? AT_RISK : "", marks.isAtRisk);
     isTold = marks.isAtRisk;
     onChange();
   };
 }
+/** Has what another tab of this net marks in this one too. */
+export const hearTabs = () => addEventListener("storage", ({ key }) => {
+  if (key === null || key === page.marks?.key) page.marks?.unite();
+});
 /** All that is marked, as a page of the net carries it. */
 export const marksText = () => [...page.marks?.entries.keys() || []].join("\n");
 /** The call that each had before which goes on under another one. */

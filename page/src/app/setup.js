@@ -3,6 +3,7 @@
 
 import { isMute } from "./alarm-sound.js";
 import { listenToControls } from "./controls.js";
+import { hearTabs } from "./dealt.js";
 import { reveal } from "./reveal.js";
 import { drawSaves, saveNow } from "./save-menu.js";
 import { pick } from "./selection.js";
@@ -118,4 +119,5 @@ export function begin() {
   page.widgets = { map, layers, form, sources, lists: makeLists() };
   drawSaves();
   listenToControls();
+  hearTabs();
 }

@@ -130,6 +130,19 @@ export class Journal {
     return isNew;
   }
   /**
+   * Takes what a page carries, and what another window keeps; the store goes on keeping what it
+   * keeps, for pages that don't carry that.
+   * @param {string} carried
+   */
+  unite(carried = "") {
+    const before = this.entries.size, kept = this.read().split("\n");
+    for (const it of [...kept, ...carried.split("\n")]) this.put(it);
+    for (const it of kept) if (this.entries.has(it)) this.waiting.add(it);
+    const isNew = this.entries.size > before;
+    if (isNew) this.onChange();
+    return isNew;
+  }
+  /**
    * Adds an entry of this desk; its id.
    * @param {keyof typeof KINDS} kind
    * @param {Record<string, string>} says

@@ -92,7 +92,8 @@ export class Sqlite {
   bytes(number) {
     const { kept, size } = this, got = kept.get(number);
     if (got) return got;
-    if (kept.size >= KEPT) kept.delete([...kept.keys()][0]);
+    const [oldest] = kept.keys();
+    if (kept.size >= KEPT) kept.delete(oldest);
     const read = this.file.slice((number - 1) * size, number * size).arrayBuffer().then(it => {
       if (number < 1 || it.byteLength < size) throw new Error("the database is cut short");
       return new Uint8Array(it);

@@ -8,7 +8,9 @@ import { widgets } from "../app/state.js";
 import { beginTime, madeNow, tellAgain, work } from "./book.js";
 import { files } from "./file-table.js";
 import { handleOf } from "./folders.js";
-import { fileOf, isGrown, isSame, leaveOut, look, markOf, take, takePlace } from "./intake.js";
+import {
+  fileOf, isBeingWritten, isGrown, isSame, leaveOut, look, markOf, take, takePlace,
+} from "./intake.js";
 import { options } from "./options.js";
 import { say, tellProgress } from "./progress.js";
 import { beginEarly } from "./runs.js";
@@ -61,11 +63,12 @@ export async function add(dropped) {
 const coming = [];
 /** @param {Given} file @param {number} gap */
 async function lookAt(file, gap) {
-  const leavesOut = file.leftOut.length > 0;
+  const leavesOut = file.leftOut.length > 0 && !file.isUnfinished;
   file.leftOut = [];
   await look(file, gap);
+  file.isUnfinished = !leavesOut && isBeingWritten(file);
   // what was left out of a log is left out of it as it has grown
-  if (leavesOut && file.damage.length) {
+  if (file.isUnfinished || leavesOut && file.damage.length) {
     leaveOut(file);
     await look(file, gap);
   }

@@ -200,8 +200,9 @@ export function drawFiles(work) {
  * What a page has to say of a file: that it isn't in it, or not all of it.
  * @param {Given} file
  */
-export function notesOf({ name, fault, taken, leftOut }) {
+export function notesOf({ name, fault, taken, leftOut, isUnfinished }) {
   const own = printable(name);
   if (fault && !taken) return [`${own} was left out: ${fault}`];
+  if (isUnfinished) return [`${own}: its last line isn\u2019t whole yet, and is left out`];
   return leftOut.length ? [`${own}: ${count(leftOut.length, "damaged line")} left out`] : [];
 }

@@ -20,12 +20,14 @@ import { bytesIn, isSameSource, limits, sizeOf } from "../worker/sources.js";
  * lines of them were left out, and `taken` what goes into the book, or null; `unread` says why it
  * can't be read at all. `ready` are the bytes of a file that were
  * read for a check, and are the next book's. Of the lines that were passed over, so many, no more
- * than the first are kept.
+ * than the first are kept. A log `grows` that was given again, and `isUnfinished` where its last
+ * line waits for its end.
  * @typedef {{ name: string, kind: string, bytes: Source, unread: string, receiver: string,
  *   moment: string, passed: string[], over: number, said: string, fault: string, reason: string,
  *   spelling: string[], damage: Damage[], leftOut: string[], taken: Source | null,
  *   ready?: Uint8Array, lines?: import("../ics309/own-lines.js").Line[], row?: HTMLTableRowElement,
  *   whole?: Uint8Array, mark?: string, away?: string, looking?: Promise<void>, given?: Source,
+ *   grows?: boolean, isUnfinished?: boolean,
  *   handle?: FileSystemFileHandle }} Given what a browser reads a file again by is its handle
  */
 
@@ -39,7 +41,7 @@ export const SHOWN = 50;
 /** So many bytes at the beginning of a file say what it is. */
 const HEAD = 65536;
 export const asText = (/** @type {Uint8Array} */ bytes) => new TextDecoder("latin1").decode(bytes);
-const EMPTY_BOOK = "is empty, which no book is";
+const EMPTY_BOOK = "is empty, which no book is", EMPTY_GZIP = "is empty, which no gzip is";
 const NO_CAPTURE = "the receiver isn't written as RX1, or the moment as 2024-06-21T18:00:00Z";
 /**
  * A fault of an input, as the program says it.
@@ -95,7 +97,8 @@ export async function isGrown(older, it) {
  */
 export function takePlace(older, it) {
   const { bytes, spelling, handle, mark } = it;
-  Object.assign(older, { bytes, spelling, taken: null, given: undefined, handle, mark });
+  Object.assign(older,
+    { bytes, spelling, taken: null, given: undefined, handle, mark, grows: true });
 }
 /** Whether gzip packed what begins so. */
 const isPacked = (/** @type {Uint8Array} */ head) => head[0] === 0x1f && head[1] === 0x8b;
@@ -117,6 +120,8 @@ export async function take(file, bring) {
   const unread = (/** @type {string} */ why, kind = "file") =>
     fileOf(file.name, kind, new Uint8Array(), { unread: why });
   try {
+    // what packs nothing has a head all the same
+    if (!file.size && /\.gz$/i.test(file.name)) return unread(EMPTY_GZIP, "an archive");
     const { head, all } = await bytesOf(file), { bytes: begin, spelling } = spelled(head);
     if (isPacked(begin)) return unread("is packed by gzip twice: unpack it once", "an archive");
     const kind = kindOf(begin, file.name.replace(/\.gz$/i, ""));
@@ -271,6 +276,12 @@ const atHand = ({ bytes }) => /** @type {Uint8Array} */ (bytes);
  */
 export const lineText = (file, { begin, end }) =>
   new TextDecoder().decode(atHand(file).subarray(begin, Math.min(end, begin + 200))).trimEnd();
+/**
+ * Whether a log that grows was read while its last line was written, and nothing else is wrong.
+ * @param {Given} file
+ */
+export const isBeingWritten = ({ grows = false, damage }) =>
+  grows && damage.length === 1 && damage[0].why === "NoNewline";
 /**
  * Leaves out the lines that are refused.
  * @param {Given} file

@@ -17,18 +17,21 @@ import { timeText } from "../util/time.js";
  */
 export const markWords = ({ desk, at, note }, clock) => `${printable(note) || "dealt with"} (${
   desk ? `${printable(desk)}, ` : ""}${timeText(at / 1000, clock)})`;
+/** The class of what sets a mark, by which a list finds an entry that wants one. */
+export const SETS = "sets";
 /**
  * The mark of an alarm with what takes it back, or what sets one.
  * @param {string} alarm
+ * @param {string} about what a person calls that
  * @param {Marking & { settings: import("../util/time.js").Clock }} of
  * @param {string[]} notes one of which is chosen; "" for none
  * @returns {(Node | string)[]}
  */
-export function dealtNodes(alarm, { markOf, onDeal, onUndo, settings }, notes = [""]) {
+export function dealtNodes(alarm, about, { markOf, onDeal, onUndo, settings }, notes = [""]) {
   const mark = markOf(alarm);
   const button = (/** @type {string} */ words, /** @type {() => void} */ onclick) =>
-    make("button", { type: "button", className: "deal no-print", textContent: words, onclick,
-      data: { alarm }, aria: { "aria-label": `${words}: ${alarm}` } });
+    make("button", { type: "button", className: `deal no-print${mark ? "" : ` ${SETS}`}`,
+      textContent: words, onclick, data: { alarm }, aria: { "aria-label": `${words}: ${about}` } });
   if (mark) return [" ", make("small", { className: "mark-told",
     textContent: markWords(mark, settings) }), " ", button("take back", () => onUndo(alarm))];
   return notes.flatMap(note => [" ", button(note || "dealt with", () => onDeal(alarm, note))]);

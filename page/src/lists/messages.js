@@ -61,6 +61,12 @@ function whoOf(call, { settings, keyOf }, onPick) {
   return key ? make("button", { type: "button", className: "pick", title: "show on the map",
     onclick: () => onPick(key) }, shown) : shown;
 }
+/**
+ * What a person calls a message.
+ * @param {Message} it @param {View} view
+ */
+const messageWords = (it, { settings: { names } }) =>
+  `message from ${names.shown(it.source)} to ${names.shown(it.addressee)}, ${said(it.text)}`;
 /** @param {Message} it @param {View} view @param {OnPick} onPick */
 function messageRow(it, view, onPick) {
   const { isNewMessage, settings, ownCall } = view, waits = STATES.indexOf(it.state) < OPEN;
@@ -73,7 +79,8 @@ function messageRow(it, view, onPick) {
     cell("call from", whoOf(it.source, view, onPick),
       it.gate ? make("small", { textContent: ` by ${it.gate}` }) : null),
     cell("call to", whoOf(it.addressee, view, onPick)),
-    textCell(it.text, ...waits ? dealtNodes(unansweredOf(it), view) : []),
+    textCell(it.text,
+      ...waits ? dealtNodes(unansweredOf(it), messageWords(it, view), view) : []),
     cell("id", it.id), timeCell(it.first, settings), timeCell(it.last, settings));
 }
 /** @param {HTMLElement} box @param {View} view @param {OnPick} onPick */

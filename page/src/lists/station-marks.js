@@ -24,15 +24,17 @@ import { printable, said } from "../util/text.js";
 export function markFacts(it, view) {
   if (it.kind !== "station") return [];
   /** @type {Fact[]} */
-  const facts = [], { settings, before, markOf } = view;
+  const facts = [], { settings, before, markOf } = view, name = settings.names.shown(it.name);
   if (it.urgent)
     facts.push(["in need", "since ", momentOf(it.needSince, settings),
-      ...dealtNodes(needOf(it), view)]);
-  if (view.isLongAgo(it.heardAt)) facts.push(["silent", ...dealtNodes(silenceOf(it), view)]);
-  facts.push(["awaited", ...dealtNodes(homeOf(it.name), view, [GONE])]);
+      ...dealtNodes(needOf(it), `${name} in need`, view)]);
+  if (view.isLongAgo(it.heardAt))
+    facts.push(["silent", ...dealtNodes(silenceOf(it), `${name} silent`, view)]);
+  facts.push(["awaited", ...dealtNodes(homeOf(it.name), name, view, [GONE])]);
   const other = markOf(otherCallOf(it.name)), old = before.get(it.name);
   if (other)
-    facts.push(["goes on as", printable(other.note), ...dealtNodes(otherCallOf(it.name), view)]);
+    facts.push(["goes on as", printable(other.note), ...dealtNodes(otherCallOf(it.name),
+      `${name} goes on as ${printable(other.note)}`, view)]);
   if (old) facts.push(["was", said(old)]);
   return facts;
 }

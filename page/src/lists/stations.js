@@ -220,7 +220,7 @@ export function rosterList(box, view, onPick) {
       make("th", { scope: "row" }, call), cell("text", letters(printable(it.name))),
       cell("group", letters(printable([it.group, it.bib].filter(Boolean).join(" ")))),
       heard ? timeCell(heardAt, view.settings) : cell("num time", "not heard",
-        ...dealtNodes(homeOf(it.call), view, [ABSENT])),
+        ...dealtNodes(homeOf(it.call), view.settings.names.shown(it.call), view, [ABSENT])),
       heard ? ageCell(heardAt, view) : cell("num age"));
   };
   const keyOf = (/** @type {Waited} */ it) => it.call;

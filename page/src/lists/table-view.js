@@ -2,6 +2,7 @@
 // Tables that build their rows as they come into view, sort by their heads, and take one stop of
 // the tab key: arrow keys go from row to row.
 
+import { SETS } from "./dealt-mark.js";
 import { choose, chosen, make, momentOf } from "../util/dom.js";
 import { later } from "../util/task-queue.js";
 import { atOnce } from "../util/tasks.js";
@@ -59,6 +60,11 @@ export class List {
      * @type {{ key: string, button: number } | null}
      */
     this.sought = null;
+    /**
+     * Where the keyboard goes on to once the entry of a key is dealt with.
+     * @type {{ from: string, to: List<T>["sought"] } | null}
+     */
+    this.onward = null;
     this.heads = columns.map((it, n) => this.headOf(it, n));
     this.body = make("tbody");
     this.table = make("table", { id, className: "sorted" },
@@ -74,6 +80,9 @@ export class List {
     this.body.addEventListener("keydown", event => this.step(event));
     this.body.addEventListener("focusin", event =>
       this.rove(/** @type {HTMLElement} */ (event.target)));
+    // before the button draws the list anew
+    this.body.addEventListener("click", event =>
+      this.goOn(/** @type {HTMLElement} */ (event.target)), true);
   }
   /** @param {Column<T>} column @param {number} n */
   headOf({ title, number, value }, n) {
@@ -101,7 +110,7 @@ export class List {
   show(items, stays = this.given === null) {
     const many = stays && this.scrolled ? Math.max(PART, this.built) : PART;
     const isNew = this.table.parentNode !== this.box;
-    this.sought = stays ? this.keyboard : null;
+    this.sought = stays ? this.nextKeyboard() : null;
     this.given = items;
     this.items = this.order ? this.sorted(items) : items;
     this.heads.forEach((head, n) => {
@@ -142,6 +151,31 @@ export class List {
     const key = row?.dataset.key;
     return row && key !== undefined
       ? { key, button: buttonsIn(row).findIndex(it => it === activeElement) } : null;
+  }
+  /**
+   * Where an entry is dealt with, which may send it to the list's end, the keyboard goes on to the
+   * next one that wants that, or else to the one before it.
+   * @param {HTMLElement} button
+   */
+  goOn(button) {
+    const row = button.closest("tr"), { key } = row?.dataset || {};
+    if (!row || key === undefined || !button.classList.contains(SETS)) return;
+    const rows = [...this.body.rows], at = rows.indexOf(row);
+    const next = [...rows.slice(at + 1), ...rows.slice(0, at).reverse()]
+      .find(it => it.querySelector(`.${SETS}`));
+    this.onward = { from: key, to: next ? { key: next.dataset.key || "",
+      button: buttonsIn(next).findIndex(it => it.classList.contains(SETS)) } : null };
+  }
+  /** Which row gets the keyboard in another drawing; where no entry wants it, the list does. */
+  nextKeyboard() {
+    const { keyboard, onward } = this;
+    this.onward = null;
+    if (!onward || onward.from !== keyboard?.key) return keyboard;
+    if (!onward.to) {
+      this.table.tabIndex = -1;
+      this.table.focus({ preventScroll: true });
+    }
+    return onward.to;
   }
   /**
    * Gives the keyboard back to the row that had it, unless it went on.
@@ -235,6 +269,8 @@ export class List {
   /** @param {KeyboardEvent} event */
   step(event) {
     const by = STEPS[event.key], pick = /** @type {HTMLElement} */ (event.target);
+    // a key that is held down deals with one entry alone
+    if (event.repeat && pick.classList.contains(SETS)) event.preventDefault();
     if (!by || !pick.classList.contains("pick")) return;
     event.preventDefault();
     if (by === Infinity) this.whole();

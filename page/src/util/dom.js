@@ -59,8 +59,15 @@ export function make(tag, of, ...inside) {
   return node;
 }
 /**
+ * What takes the keyboard in an element.
+ * @param {HTMLElement} box
+ */
+const stopsIn = box => [.../** @type {NodeListOf<HTMLElement>} */ (
+  box.querySelectorAll("a, button, summary"))];
+/**
  * Puts these in place of what stands in an element. Who has the keyboard in it keeps it: in what
- * has the same name, or else in the first that takes it, or in `rest`.
+ * has the same name, or else in what stands there now, a link before a button, or in the last, or
+ * in `rest`.
  * @param {HTMLElement} box
  * @param {(Node | string)[]} nodes
  * @param {(it: HTMLElement) => string} nameOf
@@ -69,11 +76,12 @@ export function make(tag, of, ...inside) {
 export function replaceIn(box, nodes, nameOf, rest = null) {
   const before = /** @type {HTMLElement | null} */ (document.activeElement);
   const name = before && before !== box && box.contains(before) ? nameOf(before) : null;
+  const at = before ? stopsIn(box).indexOf(before) : -1;
   box.replaceChildren(...nodes);
   if (name === null) return;
-  const stops = [.../** @type {NodeListOf<HTMLElement>} */ (
-    box.querySelectorAll("a, button, summary"))];
-  const after = stops.find(it => nameOf(it) === name) || stops[0] || rest;
+  const stops = stopsIn(box);
+  const near = stops.slice(0, Math.max(0, at) + 1), links = near.filter(it => it.tagName === "A");
+  const after = stops.find(it => nameOf(it) === name) || links.at(-1) || near.at(-1) || rest;
   after?.focus({ preventScroll: true });
 }
 /** A letter with more marks on it than these would be as wide as all of them, without a font. */
