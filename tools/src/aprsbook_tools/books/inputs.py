@@ -83,13 +83,18 @@ def day_of(path: str) -> str:
     return begin if is_day(begin) else ""
 
 
+def is_file(path: str) -> bool:
+    """Whether a path is that of a file, or of the device that is as an empty one."""
+    return os.path.isfile(path) or os.path.realpath(path) == os.devnull
+
+
 def look_at(path: str) -> Input:
     """A file as an input."""
     try:
         status = os.stat(path)
     except OSError:
         return Input(day_said(path), path, 0, 0, "no file")
-    if not os.path.isfile(path):
+    if not is_file(path):
         return Input(day_said(path), path, 0, 0, "no file")
     fault = ""
     if not os.access(path, os.R_OK):

@@ -38,7 +38,11 @@ def plain(paths: Sequence[str], most_copied: int = -1) -> Iterator[List[str]]:
     more bytes than `most_copied` are copied: whoever reads them twice reads one state."""
     if list(paths) in ([], ["-"]):
         streams.say_what_is_awaited()
-        yield []
+        try:
+            yield []
+        except Fault as fault:
+            fault.words += what_mends(fault, "standard input")
+            raise
         return
     with contextlib.ExitStack() as stack:
         paths = stack.enter_context(spooled(paths))
@@ -64,9 +68,20 @@ def plain(paths: Sequence[str], most_copied: int = -1) -> Iterator[List[str]]:
         except Fault as fault:
             words = fault.words
             for it, file in zip(found, files):
+                words += "" if it.is_book else what_mends(fault, file, it.path)
                 if folder and file.startswith(folder):
                     words = words.replace(file, it.path)
             raise Fault(words, fault.status, fault.by) from fault
+
+
+def what_mends(fault: Fault, file: str, path: str = "") -> str:
+    """What is said behind a Fault of a line of a log, which is read from a file."""
+    if programs.fault_line(fault, file) is None:
+        return ""
+    import shlex  # only where something is wrong
+
+    named = f" {shlex.quote(path)} -o NEW.log" if path else ""
+    return f": aprs-net mend{named} writes its whole lines"
 
 
 def write_book(

@@ -93,16 +93,15 @@ def octets_of(path: str) -> Tuple[bytes, str]:
     """What a log has, unpacked, and why that isn't all of it."""
     parts: List[bytes] = []
     why = ""
-    if os.path.exists(path) and not os.path.isfile(path):
+    if os.path.exists(path) and not inputs.is_file(path):
         return b"", "can't be read to its end (no file)"
     try:
         with inputs.opened(path) as file:
             while not parts or parts[-1]:
                 parts.append(file.read(log_file.BLOCK))
-    except packing.faults():
-        why = "can't be read to its end"
-    except OSError as fault:
-        why = f"can't be read to its end ({fault.strerror or fault})"
+    except packing.faults(OSError) as fault:
+        words = isinstance(fault, OSError) and fault.strerror or fault
+        why = f"can't be read to its end ({words})"
     return b"".join(parts), why
 
 

@@ -50,7 +50,8 @@ def lines_in(octets: bytes, path: str) -> List[Line]:
         if line is not None:
             found.append(line)
         elif text.endswith(b"\n") or not log_file.is_torn(text):
-            raise Fault(f"{path}: line {number} is no whole line of a log")
+            raise Fault(f"{path}: line {number} is no whole line of a log "
+                        "(aprs-net mend takes it out)")
     return found
 
 

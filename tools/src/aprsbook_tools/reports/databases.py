@@ -2,6 +2,7 @@
 from __future__ import annotations
 
 import contextlib
+import functools
 import itertools
 import os
 import sqlite3
@@ -31,8 +32,12 @@ TABLES: Dict[str, Type[Any]] = {
 SENT = {f"a{number}": "real" for number in range(1, 6)}
 MAGIC = b"SQLite format 3\0"
 WAIT = 10.0  # seconds for another program's writing
-CACHE = 32_768  # KiB of memory, in which indices are sorted
-FEW = 3  # parts of some rows: more of them cost more than they save
+CACHE = 4_096  # KiB of memory, in which indices are sorted
+FEW = 3  # parts of some rows: more of them cost more than they save,
+LEAST = 50  # unless they have so many rows each
+TOGETHER = 8  # rows that one statement puts in, of which each costs less than alone
+# of a file that nobody knows yet: a run that ends too early leaves none
+NEW = ("page_size = 16384", "journal_mode = off", "synchronous = off", "locking_mode = exclusive")
 # each place, but for 0, 0, which GPS without a fix says, and the last one of each thing; a kill at
 # 0, 0 is where the thing was
 VIEWS = {
@@ -90,22 +95,12 @@ def is_null(name: str, read: Callable[[str], Any]) -> bool:
     return name in SENT or table_files.cell_of(read("")) is None
 
 
-def literal(shown: Sequence[str], convert: table.ConvertColumn) -> str:
-    """SQL of the text that all values of a column are; nothing where they aren't one text."""
-    first = shown[0]
-    if first != shown[-1] or shown.count(first) < len(shown):
-        return ""
-    [value] = convert(shown[:1])
-    if not isinstance(value, str) or "\0" in value:
-        return ""  # SQL ends at a NUL
-    return "'" + value.replace("'", "''") + "'"
-
-
 def parts_of(kinds: Sequence[str]) -> Iterator[Tuple[int, int]]:
     """Where parts of rows begin and end that are alike in the first column, the kind of a row: then
     more of the others are empty. All rows are one where these would be many."""
     counts = [len([*group]) for _, group in itertools.groupby(kinds)]
-    ends = [*itertools.accumulate(counts)] if len(counts) <= FEW else [len(kinds)]
+    are_few = len(counts) <= max(FEW, len(kinds) // LEAST)
+    ends = [*itertools.accumulate(counts)] if are_few else [len(kinds)]
     return zip([0, *ends], ends)
 
 
@@ -124,24 +119,73 @@ def columns_put(name: str, count: int) -> List[Column]:
     return own + [Column(converter_of("", str), "''")] * count
 
 
+class Part(NamedTuple):
+    """Some rows: what stands in a statement for one of them, what is bound once for all, and what
+    is bound for each."""
+
+    row: str
+    alike: List[Any]
+    own: List[Sequence[Any]]
+    size: int
+
+    def values(self, begin: int, end: int, together: int) -> Iterable[Any]:
+        """What is bound for the rows from one to another, where a statement has so many."""
+        if not self.own:
+            return [self.alike] * ((end - begin) // together)
+        own = [it[begin + at:end:together] for at in range(together) for it in self.own]
+        return zip(*map(itertools.repeat, self.alike), *own)
+
+    def put_into(self, base: sqlite3.Connection, name: str) -> None:
+        """Puts the rows into a table, in their order."""
+        whole = self.size - self.size % TOGETHER
+        for begin, end, together in (0, whole, TOGETHER), (whole, self.size, 1):
+            if begin < end:
+                words = statement(name, self.row, len(self.alike), len(self.own), together)
+                base.executemany(words, self.values(begin, end, together))
+
+
+@functools.lru_cache(maxsize=128)
+def statement(name: str, row: str, alike: int, own: int, together: int) -> str:
+    """SQL that puts so many rows into a table, where so many values are alike in all, and so many
+    are of each row."""
+    numbers = itertools.count(alike + 1)
+    rows = [row.format(*(f"?{it}" for it in itertools.islice(numbers, own)))
+            for _ in range(together)]
+    return f"insert into {name} values ({'), ('.join(rows)})"
+
+
+def part_of(put: Sequence[Column], columns: Mapping[int, Sequence[str]], size: int) -> Part:
+    """So many rows as they are bound, of what is shown in columns by their places. To bind costs
+    most, and to bind a null most of all: so nulls stand in the statement, and what all rows have is
+    bound once. Columns that are as the one before, as a row's two moments mostly are, are one."""
+    values = [it.empty for it in put]
+    alike: List[Any] = []
+    own: List[Sequence[Any]] = []
+    for at, shown in columns.items():
+        convert, empty = put[at]
+        if table.is_empty(shown):
+            continue
+        if shown[0] == shown[-1] and shown.count(shown[0]) == size:
+            alike += convert(shown[:1])
+            values[at] = f"?{len(alike)}"
+            continue
+        converted = convert(shown)
+        if not own or converted != own[-1]:
+            own.append(converted)
+        values[at] = f"{{{len(own) - 1}}}"
+        if empty == "null" and "" in shown:
+            values[at] = f"nullif({values[at]}, '')"
+    return Part(", ".join(values), alike, own, size)
+
+
 def insert(base: sqlite3.Connection, name: str, tables: Iterable[Columns], count: int) -> None:
-    """Puts columns, of which so many are of names, into a table. Nulls, and what is one text in all
-    rows, stand in the statement: to bind costs most, and to bind a null most of all."""
+    """Puts columns, of which so many are of names, into a table."""
     put = columns_put(name, count)
     for columns in tables:
         filled = [at for at, shown in enumerate(columns) if not table.is_empty(shown)]
         for begin, end in parts_of(columns[0]):
-            values, bound = [it.empty for it in put], []
-            for at in filled:
-                shown = columns[at][begin:end]
-                if not table.is_empty(shown):
-                    values[at] = literal(shown, put[at].convert)
-                    if not values[at]:
-                        may_lack = put[at].empty == "null" and "" in shown
-                        values[at] = "nullif(?, '')" if may_lack else "?"
-                        bound.append(put[at].convert(shown))
-            rows: Iterable[Any] = zip(*bound) if bound else [()] * (end - begin)
-            base.executemany(f"insert into {name} values ({', '.join(values)})", rows)
+            shown = {at: columns[at][begin:end] for at in filled}
+            part_of(put, shown, end - begin).put_into(base, name)
 
 
 def check(path: str, inputs: Sequence[str]) -> str:
@@ -161,28 +205,29 @@ def writing(path: str, inputs: Sequence[str]) -> Iterator[sqlite3.Connection]:
     """A transaction, which is taken back where its block ends by a fault."""
     real = check(path, inputs)
     with atomic.locked(path):  # so that nobody waits for a new one that a fault takes away
-        yield from transaction(path, real)
+        if os.path.exists(real):
+            yield from transaction(path, real)
+            return
+        with atomic.writing(path, inputs) as new:
+            yield from transaction(path, new.path, NEW)
+            if os.path.exists(real):
+                raise Fault(f"{path}: another program has made it meanwhile", ExitStatus.OUTPUT)
 
 
-def transaction(path: str, real: str) -> Iterator[sqlite3.Connection]:
-    """As `writing`, of the file behind links."""
-    is_new = not os.path.exists(real)
+def transaction(path: str, file: str, settings: Sequence[str] = ()) -> Iterator[sqlite3.Connection]:
+    """As `writing`, of the file in which the database of the path is for now."""
     try:
-        base = sqlite3.connect(real, timeout=WAIT, isolation_level=None)
+        base = sqlite3.connect(file, timeout=WAIT, isolation_level=None)
         try:
-            base.execute(f"pragma cache_size = -{CACHE}")
+            for it in (*settings, f"cache_size = -{CACHE}"):
+                base.execute(f"pragma {it}")
             base.execute("begin immediate")
             yield base
             base.execute("commit")
-            is_new = False
         finally:
             base.close()  # what wasn't committed is taken back
     except sqlite3.Error as fault:
         raise Fault(f"{path}: {fault}", ExitStatus.OUTPUT) from fault
-    finally:
-        if is_new:
-            with contextlib.suppress(OSError):
-                os.unlink(real)
 
 
 def drop(base: sqlite3.Connection, name: str) -> None:

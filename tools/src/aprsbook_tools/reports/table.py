@@ -318,15 +318,15 @@ class Layout:
 
     def short(self, lines: Sequence[str], number_: int) -> Callable[[int], Sequence[str]]:
         """The same, of which the last one is all that stands behind those that are read."""
-        rows = [line.split("\t", self.most) for line in lines]
-        self.check(lines, [*map(len, rows)], min(self.most + 1, len(self.head)), number_)
+        rows = [*map(str.split, lines, itertools.repeat("\t"), itertools.repeat(self.most))]
+        size = min(self.most + 1, len(self.head))
+        if {*map(len, rows)} != {size}:
+            self.check(lines, [*map(len, rows)], size, number_)
         turned = [*zip(*rows)]
         return lambda at: turned[at] if at < len(turned) else [""] * len(rows)
 
     def check(self, lines: Sequence[str], sizes: Sequence[int], size: int, number_: int) -> None:
         """Refuses lines, of which the first has this number, that aren't all of a size."""
-        if {*sizes} <= {size}:
-            return
         at = next(at for at, it in enumerate(sizes) if it != size)
         raise Fault(f"the table of {WORDS[self.kind]}: line {number_ + at} has "
                     f"{FIELDS(lines[at]) + 1} fields, and {len(self.head)} columns are named")

@@ -190,18 +190,19 @@ def new_token() -> str:
 
 def add(path: str, kind: str, name: str) -> str:
     """Adds a new token to a file, which nobody else may read; the token."""
-    with contextlib.suppress(FileExistsError):
-        os.close(os.open(path, os.O_WRONLY | os.O_CREAT | os.O_EXCL, 0o600))
+    atomic.check(path)
     with atomic.locked(path):
-        grants, _ = read_grants(path)
-        if any((it.kind, it.name) == (kind, name) for it in grants):
-            raise Fault(f"{path} has a token of {kind} {name}: --remove takes it away")
-        with open(path, encoding="utf-8") as file:
-            text = file.read()
+        text = ""
+        if os.path.exists(path):
+            grants, _ = read_grants(path)
+            if any((it.kind, it.name) == (kind, name) for it in grants):
+                raise Fault(f"{path} has a token of {kind} {name}: --remove takes it away")
+            with open(path, encoding="utf-8") as file:
+                text = file.read()
         token = new_token()
         if text and not text.endswith("\n"):
             text += "\n"
-        atomic.write(path, f"{text}{kind} {name} {token}\n".encode())
+        atomic.write(path, f"{text}{kind} {name} {token}\n".encode(), mode=0o600)
     return token
 
 

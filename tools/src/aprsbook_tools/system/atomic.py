@@ -173,12 +173,12 @@ def mode_of_new(mode: int) -> int:
     return mode & ~mask
 
 
-def take_over(file: int, real: str) -> None:
-    """Gives a file the owner and the mode of the one that it replaces, or those of a new file."""
+def take_over(file: int, real: str, mode: int) -> None:
+    """Gives a file the owner and the mode of the one that it replaces, or this mode of a new one."""
     try:
         old = os.stat(real)
     except FileNotFoundError:
-        mode = mode_of_new(0o666)
+        mode = mode_of_new(mode)
     else:
         mode = stat.S_IMODE(old.st_mode)
         with contextlib.suppress(OSError, AttributeError):
@@ -188,7 +188,8 @@ def take_over(file: int, real: str) -> None:
 
 
 @contextlib.contextmanager
-def writing(path: str, given: Sequence[str] = (), is_named: bool = True) -> Iterator[Writing]:
+def writing(path: str, given: Sequence[str] = (), is_named: bool = True, mode: int = 0o666
+            ) -> Iterator[Writing]:
     """A file to write into, which becomes that of the path where the block ends without a fault."""
     import filecmp
     import tempfile
@@ -203,7 +204,7 @@ def writing(path: str, given: Sequence[str] = (), is_named: bool = True) -> Iter
             result = Writing(file, new)
             yield result
             file.flush()
-            take_over(file.fileno(), real)
+            take_over(file.fileno(), real, mode)
             os.fsync(file.fileno())
         if os.path.exists(real) and filecmp.cmp(new, real, shallow=False):
             return
@@ -220,9 +221,10 @@ def writing(path: str, given: Sequence[str] = (), is_named: bool = True) -> Iter
                 os.unlink(new)
 
 
-def write(path: str, octets: bytes, given: Sequence[str] = (), is_named: bool = True) -> bool:
+def write(path: str, octets: bytes, given: Sequence[str] = (), is_named: bool = True,
+          mode: int = 0o666) -> bool:
     """A file becomes these bytes; whether it was another before."""
-    with writing(path, given, is_named) as new:
+    with writing(path, given, is_named, mode) as new:
         new.file.write(octets)
     return new.changed
 
