@@ -229,7 +229,7 @@ test("a log that is read while its last line is written stays, and has that line
     await give(first + more.slice(0, 40));
     assert.equal(heard(), "heard 1 passed 0");
     assert.ok(aprsbook.data.notes
-      .includes("moor.log: its last line isn\u2019t whole yet, and is left out"));
+      .includes("moor.log: its last line isn\u2019t whole yet"));
     await give(first + more + more.slice(0, 9));
     assert.equal(heard(), "heard 2 passed 0");
     // what else is wrong is asked for all the same

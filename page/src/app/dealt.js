@@ -33,9 +33,9 @@ export function openMarks(title, given, onChange) {
     onChange();
   };
 }
-/** Has what another tab of this net marks in this one too. */
+/** Has what another tab marks in this one too, where no server tells it. */
 export const hearTabs = () => addEventListener("storage", ({ key }) => {
-  if (key === null || key === page.marks?.key) page.marks?.unite();
+  if (!page.journal && key === page.marks?.key) page.marks?.unite();
 });
 /** All that is marked, as a page of the net carries it. */
 export const marksText = () => [...page.marks?.entries.keys() || []].join("\n");

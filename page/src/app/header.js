@@ -6,7 +6,7 @@ import { callsBefore } from "./dealt.js";
 import { page, shownNow, view } from "./state.js";
 import { isExcusedOf } from "../lists/stations.js";
 import { expectedOf, faultWords } from "../net/roster.js";
-import { byId, make, replaceIn, write } from "../util/dom.js";
+import { byId, make, makeButton, replaceIn, write } from "../util/dom.js";
 import { count, firstOf, namesText } from "../util/text.js";
 import { dateText, secondText, timeText, zonesText } from "../util/time.js";
 
@@ -117,9 +117,9 @@ function drawUrgent(needs) {
   if ([...urgent.querySelectorAll("a, span")].map(it => it.textContent).join("\n") ===
     words.join("\n")) return;
   urgent.hidden = !some.length;
-  const button = (/** @type {import("./alerts.js").Need} */ it) => make("button", { type: "button",
-    className: "deal", textContent: "dealt with", aria: { "aria-label": `dealt with: ${it.text}` },
-    data: { alarm: it.alarm }, onclick: () => view.onDeal(it.alarm, "") });
+  const button = (/** @type {import("./alerts.js").Need} */ it) => makeButton("dealt with",
+    () => view.onDeal(it.alarm, ""), `dealt with: ${it.text}`,
+    { className: "deal", data: { alarm: it.alarm } });
   replaceIn(urgent, [...some.flatMap(it => [linkOf(it), button(it), " "]),
     ...words.slice(some.length).map(textContent => make("span", { textContent }))],
   aboutOf, byId("ics-close"));

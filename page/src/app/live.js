@@ -18,7 +18,8 @@ export const alive = { isOn: false, asked: Date.now(), asks: false, touched: 0, 
 /** After how many milliseconds a server that doesn't answer is away, and is asked anew. */
 export const patience = { late: 10000, most: 120000 };
 
-const isServed = () => location.protocol.startsWith("http");
+/** Whether a server gives the page, and no disk. */
+export const isServed = () => location.protocol.startsWith("http");
 /** Whether somebody is at work in the page, or would lose something where it is loaded again. */
 export const isBusy = () => Date.now() - alive.touched < 10000 || page.playing !== undefined ||
   !isServed() && (Boolean(page.widgets?.form.isWritten) || page.own.isAtRisk ||

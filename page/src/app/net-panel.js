@@ -5,7 +5,7 @@
 import { apartText } from "../net/clock-words.js";
 import { page, tell } from "./state.js";
 import { courseFor } from "../desks/course.js";
-import { make, momentOf, write } from "../util/dom.js";
+import { make, makeButton, momentOf, write } from "../util/dom.js";
 import { count, messageOf, printable } from "../util/text.js";
 
 /** @typedef {import("../desks/journal.js").Journal} Journal */
@@ -55,7 +55,7 @@ export const nowOf = (net, own) => ({
 });
 /** @param {string} words @param {Node[]} fields @param {() => void} run */
 const fieldset = (words, fields, run) => make("p", {}, ...fields.flatMap(it => [it, " "]),
-  make("button", { type: "button", textContent: words, onclick: run }));
+  makeButton(words, run));
 /** @param {string} label @param {HTMLElement} node */
 const labelled = (label, node) => make("label", { textContent: `${label} ` }, node);
 /** @param {string} label @param {object} of */
@@ -143,9 +143,7 @@ function wordsFor(journal) {
 const notesOf = journal => journal.ofKind("note").map(it => make("li", {},
   momentOf(it.at / 1000, page.settings),
   ` ${printable(String(it.call))}: ${printable(String(it.text))} (${printable(it.desk)}) `,
-  make("button", { type: "button", textContent: "take away",
-    aria: { "aria-label": `take the note to ${it.call} away` },
-    onclick: () => journal.remove(it.id) })));
+  makeButton("take away", () => journal.remove(it.id), `take the note to ${it.call} away`)));
 
 /** The panel, once it is made: its notes, and what shows in its fields what is set. */
 let panel = /** @type {{ notes: HTMLElement, show: (net: NetTold) => void } | null} */ (null);

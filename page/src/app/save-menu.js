@@ -3,12 +3,12 @@
 
 import { page, shownNow, tell } from "./state.js";
 import { SAVES } from "../formats/exports.js";
-import { byId, make, save } from "../util/dom.js";
+import { byId, makeButton, save } from "../util/dom.js";
 import { gathered, inSlices } from "../util/tasks.js";
 
 export function drawSaves() {
   byId("saves").lastElementChild?.replaceChildren(...Object.keys(SAVES).map(name =>
-    make("button", { type: "button", textContent: name, onclick: () => saveNow(name) })));
+    makeButton(name, () => saveNow(name))));
 }
 /**
  * Saves in slices what the page has, and says so while it takes long.

@@ -83,7 +83,7 @@ export class Journal {
     this.onChange = () => {};
     /** The marks by alarms, as they were at so many entries: none is ever changed. */
     this.dealt = { at: -1, by: /** @type {Map<string, Entry[]>} */ (new Map()) };
-    for (const it of this.read().split("\n")) if (this.put(it)) this.waiting.add(it);
+    this.unite();
   }
   read() {
     try {
@@ -135,12 +135,11 @@ export class Journal {
    * @param {string} carried
    */
   unite(carried = "") {
-    const before = this.entries.size, kept = this.read().split("\n");
-    for (const it of [...kept, ...carried.split("\n")]) this.put(it);
-    for (const it of kept) if (this.entries.has(it)) this.waiting.add(it);
-    const isNew = this.entries.size > before;
-    if (isNew) this.onChange();
-    return isNew;
+    const { entries } = this, { size } = entries;
+    for (const it of this.read().split("\n"))
+      if (this.put(it) || entries.has(it)) this.waiting.add(it);
+    for (const it of carried.split("\n")) this.put(it);
+    if (entries.size > size) this.onChange();
   }
   /**
    * Adds an entry of this desk; its id.

@@ -10,6 +10,8 @@
  */
 /** @typedef {{ name: string, table: string, root: number, kind: string, sql: string }} Item */
 
+const CUT = "is cut short", DAMAGED = "is damaged";
+const faultOf = (/** @type {string} */ what) => new Error(`the database ${what}`);
 const INDEX_INNER = 2, TABLE_INNER = 5, INDEX_LEAF = 10, TABLE_LEAF = 13;
 /** So many pages stay in memory, and a tree is at most so high. */
 const KEPT = 500, HIGHEST = 20;
@@ -95,7 +97,7 @@ export class Sqlite {
     const [oldest] = kept.keys();
     if (kept.size >= KEPT) kept.delete(oldest);
     const read = this.file.slice((number - 1) * size, number * size).arrayBuffer().then(it => {
-      if (number < 1 || it.byteLength < size) throw new Error("the database is cut short");
+      if (number < 1 || it.byteLength < size) throw faultOf(CUT);
       return new Uint8Array(it);
     });
     kept.set(number, read);
@@ -107,7 +109,7 @@ export class Sqlite {
     const head = number === 1 ? 100 : 0, kind = bytes[head];
     const isLeaf = kind === TABLE_LEAF || kind === INDEX_LEAF;
     if (!isLeaf && kind !== TABLE_INNER && kind !== INDEX_INNER)
-      throw new Error("the database is damaged");
+      throw faultOf(DAMAGED);
     const begin = head + (isLeaf ? 8 : 12);
     const cells = Array.from({ length: view.getUint16(head + 3) }, (_, k) =>
       view.getUint16(begin + 2 * k));
@@ -201,7 +203,7 @@ export class Sqlite {
    * @returns {AsyncGenerator<Value[]>}
    */
   async *rows(root, depth = 0, seen = new Set()) {
-    if (depth > HIGHEST || seen.has(root)) throw new Error("the database is damaged");
+    if (depth > HIGHEST || seen.has(root)) throw faultOf(DAMAGED);
     seen.add(root);
     const page = await this.page(root), { bytes, view, cells, kind } = page;
     for (const cell of cells) {
@@ -220,8 +222,8 @@ export class Sqlite {
  */
 export async function openSqlite(file) {
   const head = new DataView(await file.slice(0, 100).arrayBuffer());
-  if (head.byteLength < 100) throw new Error("the database is cut short");
-  if (head.getUint32(56) > 1) throw new Error("the database has its texts in UTF-16");
+  if (head.byteLength < 100) throw faultOf(CUT);
+  if (head.getUint32(56) > 1) throw faultOf("has its texts in UTF-16");
   const it = new Sqlite(file, head);
   for await (const [kind, name, table, root, sql] of it.rows(1))
     it.items.push({ kind: String(kind), name: String(name), table: String(table),

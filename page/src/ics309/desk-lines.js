@@ -2,12 +2,11 @@
 // Whose lines stand in the form: how many each desk has, what takes all of them away, and what a
 // page that was dropped here offers.
 
-import { make } from "../util/dom.js";
+import { make, makeButton } from "../util/dom.js";
 import { count, printable } from "../util/text.js";
 
 /** @param {string} words @param {string} about @param {() => void} onclick */
-const button = (words, about, onclick) => make("button", { type: "button", textContent: words,
-  onclick, aria: { "aria-label": `${words}: ${about}` } });
+const button = (words, about, onclick) => makeButton(words, onclick, `${words}: ${about}`);
 /** How many lines there are, and whose. */
 const textOf = (/** @type {string} */ desk, /** @type {number} */ n) =>
   desk ? `${count(n, "line")} of ${printable(desk)}` : `${count(n, "line")} of your own`;

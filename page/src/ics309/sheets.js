@@ -3,7 +3,7 @@
 
 import { cell } from "../lists/table-view.js";
 import { entriesOf } from "../net/log-entries.js";
-import { air, byId, callIn, letters, make, momentOf, textOf } from "../util/dom.js";
+import { air, byId, callIn, letters, make, makeButton, momentOf, textOf } from "../util/dom.js";
 import { printable, said } from "../util/text.js";
 import { datedBy, fullText, zonesText, zoneText } from "../util/time.js";
 
@@ -60,9 +60,8 @@ const MOST = 200, AT_ONCE = 12;
 function rowOf(it, { settings, onRemove }) {
   const { own } = it;
   const name = own ? printable : (/** @type {string} */ call) => settings.names.shown(call);
-  const remove = own && make("button", { type: "button", className: "no-print",
-    textContent: "take away", aria: { "aria-label": `take line ${it.number} away` },
-    onclick: () => onRemove(own) });
+  const remove = own && makeButton("take away", () => onRemove(own),
+    `take line ${it.number} away`, { className: "no-print" });
   const className = !own ? "" : own.desk ? "own of-desk" : "own";
   return make("tr", { className }, cell("num", String(it.number)),
     cell("num time", momentOf(it.at, settings)), cell("call", callIn(name(it.from))),

@@ -6,8 +6,9 @@ import { REASONS } from "../formats/file-kinds.js";
 import { movedIn, receiversIn } from "./clock-shift.js";
 import { leaveOut, lineText, look, shifts, SHOWN } from "./intake.js";
 import { options } from "./options.js";
+import { rowHead } from "../lists/table-view.js";
 import { apartText } from "../net/clock-words.js";
-import { byId, make, replaceIn, save } from "../util/dom.js";
+import { byId, make, makeButton, replaceIn, save } from "../util/dom.js";
 import { count, printable } from "../util/text.js";
 import { sizeOf } from "../worker/sources.js";
 
@@ -55,9 +56,8 @@ function fieldsOf(file, work) {
 /** @param {Given} file @param {Work} work */
 function fileRow(file, work) {
   const name = printable(file.name);
-  const away = make("button", { type: "button", textContent: "take away",
-    aria: { "aria-label": `take ${name} away` }, onclick: () => takeAway(file, work) });
-  return make("tr", {}, make("th", { scope: "row", textContent: name }), make("td"),
+  const away = makeButton("take away", () => takeAway(file, work), `take ${name} away`);
+  return make("tr", {}, rowHead(name), make("td"),
     make("td", { className: "num" }),
     make("td", {}, make("span", { className: "verdict" }), make("span", { className: "more" }),
       file.kind === "KISS stream" ? fieldsOf(file, work) : null), make("td", {}, away));
@@ -82,11 +82,11 @@ function damageOf(file, work) {
   const words = `leave out ${damage.length === 1 ? "this line" : `these ${damage.length} lines`}`;
   const lines = damage.map(it => `line ${it.line}: ${it.why}: ${lineText(file, it)}`);
   return [linesOf(count(damage.length, "damaged line"), lines, damage.length <= OPEN),
-    make("button", { type: "button", className: "leave", textContent: words, async onclick() {
+    makeButton(words, async () => {
       leaveOut(file);
       await look(file, options.gap);
       work();
-    } })];
+    }, "", { className: "leave" })];
 }
 /**
  * What is said of a clock that is put right.
@@ -124,10 +124,10 @@ export function movedOf(file) {
   const words = movedText(file);
   if (!words) return [];
   return [make("p", { textContent: words }),
-    make("button", { type: "button", className: "moved", textContent: "save it so", onclick() {
+    makeButton("save it so", () => {
       const name = file.name.replace(/(\.[a-z]+)?$/i, ".put-right$&"), log = logOf(file);
       if (log) save(name, log, "text/plain");
-    } })];
+    }, "", { className: "moved" })];
 }
 /**
  * What else is said of a file: its spelling, and lines passed over, refused, left out.
@@ -203,6 +203,6 @@ export function drawFiles(work) {
 export function notesOf({ name, fault, taken, leftOut, isUnfinished }) {
   const own = printable(name);
   if (fault && !taken) return [`${own} was left out: ${fault}`];
-  if (isUnfinished) return [`${own}: its last line isn\u2019t whole yet, and is left out`];
+  if (isUnfinished) return [`${own}: its last line isn\u2019t whole yet`];
   return leftOut.length ? [`${own}: ${count(leftOut.length, "damaged line")} left out`] : [];
 }

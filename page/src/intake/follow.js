@@ -2,7 +2,7 @@
 // A page that is served beside logs: it reads a list of their names, and asks again for what has
 // grown. Each log is asked for by itself, and for so long; what was read of it stays.
 
-import { alive, heard, tick } from "../app/live.js";
+import { alive, heard, isServed, tick } from "../app/live.js";
 import { page } from "../app/state.js";
 import { kindOf, linesLost, READ, spelled } from "../formats/file-kinds.js";
 import { joined } from "../formats/gunzip.js";
@@ -26,7 +26,7 @@ export const pace = { each: 15, limit: 10000 };
 const OVERLAP = 64; // bytes that are asked for again, to see that it is the same file
 
 export function beginFollowing() {
-  if (!location.protocol.startsWith("http")) return;
+  if (!isServed()) return;
   byId("follow-label").hidden = false;
   setOption("list", chosen.get("logs") || "");
   byId("follow").addEventListener("change", () => {

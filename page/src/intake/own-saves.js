@@ -7,7 +7,7 @@ import { placeOf } from "./intake.js";
 import { options } from "./options.js";
 import { say } from "./progress.js";
 import { dataWithRepeats, eventPieces, readShell, tilesWithin } from "./save-event-page.js";
-import { byId, make, save } from "../util/dom.js";
+import { byId, make, makeButton, save } from "../util/dom.js";
 import { gathered, inSlices } from "../util/tasks.js";
 import { count, messageOf } from "../util/text.js";
 import { run } from "../worker/pool.js";
@@ -77,10 +77,10 @@ function mostField() {
 export function drawOwnSaves(madeNow) {
   const put = (/** @type {typeof OWN[number]} */ id, /** @type {string} */ name,
     /** @type {(made: Made) => unknown} */ run) => byId("saves").lastElementChild?.prepend(
-    make("button", { type: "button", id, textContent: name, disabled: true, onclick() {
+    makeButton(name, () => {
       const made = madeNow();
       if (made) run(made);
-    } }));
+    }, "", { id, disabled: true }));
   byId("saves").lastElementChild?.prepend(mostField());
   const putRun = (/** @type {"listing" | "history"} */ id, /** @type {string} */ command,
     /** @type {string} */ name) => put(id, `${id} (text)`,

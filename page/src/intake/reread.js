@@ -3,7 +3,7 @@
 // page that was opened from a disk goes on.
 
 import { goOnFromHere } from "../app/header.js";
-import { alive, tick } from "../app/live.js";
+import { alive, isServed, tick } from "../app/live.js";
 import { page } from "../app/state.js";
 import { add } from "./adding.js";
 import { files } from "./file-table.js";
@@ -42,5 +42,5 @@ export async function reread() {
 export function beginRereading() {
   if (!("getAsFileSystemHandle" in (globalThis.DataTransferItem?.prototype || {}))) return;
   setInterval(reread, pace.each);
-  setInterval(() => page.follows && !location.protocol.startsWith("http") && tick(), 1000);
+  setInterval(() => page.follows && !isServed() && tick(), 1000);
 }

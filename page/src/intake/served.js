@@ -3,7 +3,7 @@
 // desks write down for one another.
 
 import { bring, putFirst, takeAway } from "../app/add-layer.js";
-import { alive, tick } from "../app/live.js";
+import { alive, isServed, tick } from "../app/live.js";
 import { drawNetPanel, nowOf } from "../app/net-panel.js";
 import { drawMarks } from "../app/render.js";
 import { page, tell } from "../app/state.js";
@@ -175,7 +175,7 @@ function share(/** @type {Journal} */ journal) {
 }
 /** Listens to the server, if it is one that tells what is new. */
 export async function beginServed() {
-  if (!location.protocol.startsWith("http")) return;
+  if (!isServed()) return;
   const answer = await fetch("who", { cache: "no-store" }).catch(() => null);
   if (!answer?.ok || answer.headers.get("content-type") !== "application/json") return;
   const who = await answer.json();

@@ -1,7 +1,7 @@
 // @ts-check
 // Marks that somebody deals with an alarm: who and when, and what sets or takes back one.
 
-import { make } from "../util/dom.js";
+import { make, makeButton } from "../util/dom.js";
 import { printable } from "../util/text.js";
 import { timeText } from "../util/time.js";
 
@@ -30,8 +30,8 @@ export const SETS = "sets";
 export function dealtNodes(alarm, about, { markOf, onDeal, onUndo, settings }, notes = [""]) {
   const mark = markOf(alarm);
   const button = (/** @type {string} */ words, /** @type {() => void} */ onclick) =>
-    make("button", { type: "button", className: `deal no-print${mark ? "" : ` ${SETS}`}`,
-      textContent: words, onclick, data: { alarm }, aria: { "aria-label": `${words}: ${about}` } });
+    makeButton(words, onclick, `${words}: ${about}`,
+      { className: `deal no-print ${mark ? "" : SETS}`, data: { alarm } });
   if (mark) return [" ", make("small", { className: "mark-told",
     textContent: markWords(mark, settings) }), " ", button("take back", () => onUndo(alarm))];
   return notes.flatMap(note => [" ", button(note || "dealt with", () => onDeal(alarm, note))]);

@@ -2,7 +2,7 @@
 // Messages and bulletins.
 
 import { dealtNodes } from "./dealt-mark.js";
-import { cell, List, newMark, timeCell } from "./table-view.js";
+import { cell, List, newMark, pickButton, timeCell } from "./table-view.js";
 import { unansweredOf } from "../net/alarms.js";
 import { air, callIn, make } from "../util/dom.js";
 import { said } from "../util/text.js";
@@ -58,8 +58,7 @@ const textCell = (/** @type {string} */ text, /** @type {(Node | string)[]} */ .
  */
 function whoOf(call, { settings, keyOf }, onPick) {
   const shown = callIn(settings.names.shown(call)), key = keyOf(call);
-  return key ? make("button", { type: "button", className: "pick", title: "show on the map",
-    onclick: () => onPick(key) }, shown) : shown;
+  return key ? pickButton(shown, () => onPick(key)) : shown;
 }
 /**
  * What a person calls a message.

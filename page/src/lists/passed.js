@@ -1,7 +1,7 @@
 // @ts-check
 // Checkpoints: when each passed, as a table with a line for each who did, and each visit.
 
-import { cell, List, number } from "./table-view.js";
+import { cell, List, number, pickButton, rowHead } from "./table-view.js";
 import { far } from "../geo/units.js";
 import { callIn, letters, make } from "../util/dom.js";
 import { count, printable } from "../util/text.js";
@@ -62,9 +62,8 @@ export function passedList(box, visits, { points, settings }, onPick) {
   const passages = passagesOf(points.length, visits);
   const hasLaps = visits.some(it => it.lap > 1);
   const row = (/** @type {Line} */ it) => make("tr", {},
-    cell("num", letters(printable(it.bib))), make("th", { scope: "row" },
-      make("button", { type: "button", className: "pick", title: "show on the map",
-        onclick: () => onPick(it.key) }, callIn(it.name))),
+    cell("num", letters(printable(it.bib))),
+    rowHead(pickButton(callIn(it.name), () => onPick(it.key))),
     ...passages.map(passage => {
       const visit = visitOf(it, passage);
       return cell("num time", visit ? cameText(visit, settings) : "");
@@ -83,7 +82,7 @@ export function passedList(box, visits, { points, settings }, onPick) {
  */
 export function visitList(box, { points, settings }) {
   const row = (/** @type {Visit & { turn: number }} */ it) => make("tr", {},
-    make("th", { scope: "row" }, letters(printable(points[it.checkpoint].name))), number(it.turn),
+    rowHead(letters(printable(points[it.checkpoint].name))), number(it.turn),
     cell("call", callIn(it.thing.label)), cell("num time", cameText(it, settings)),
     cell("num time", timeText(it.went, settings)), number(it.lap),
     cell("num", far(it.metres, settings)), cell("kind", it.isHeard ? "heard" : "between"));

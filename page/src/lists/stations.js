@@ -3,13 +3,15 @@
 
 import { placeText } from "../geo/coordinate-formats.js";
 import { dealtNodes, markWords } from "./dealt-mark.js";
-import { ageCell, cell, heardCell, List, newMark, number, timeCell } from "./table-view.js";
+import {
+  ageCell, cell, heardCell, List, newMark, number, pickButton, rowHead, timeCell,
+} from "./table-view.js";
 import { markOf, symbolOf } from "../map/symbols.js";
 import { homeOf, needOf, otherCallOf, silenceOf } from "../net/alarms.js";
 import { clockWords } from "../net/clock-words.js";
 import { OPEN, wordsOf } from "../net/details.js";
 import { nameIn } from "../net/rows.js";
-import { air, callIn, letters, make } from "../util/dom.js";
+import { air, callIn, letters, make, makeButton } from "../util/dom.js";
 import { printable, said } from "../util/text.js";
 
 /** @typedef {import("../net/things.js").Thing} Thing */
@@ -72,14 +74,13 @@ function aboutOf(it, now, view) {
 /** @param {Thing} it @param {View} view @param {(key: string) => void} onPick */
 function thingRow(it, view, onPick) {
   const { now } = it, { settings } = view;
-  const pick = make("button", { type: "button", className: `pick ${it.kind}`,
-    title: "show on the map", onclick: () => onPick(it.key) }, callIn(it.label));
+  const pick = pickButton(callIn(it.label), () => onPick(it.key), it.kind);
   /** @type {(Node | string)[]} */
   const kind = [it.kind + (it.killed ? " killed" : "")];
   if (it.kind !== "station" && now)
     kind.push(make("small", { textContent: ` of ${settings.names.shown(now.source)}` }));
   return make("tr", { className: marksOf(it, view) },
-    make("th", { scope: "row" }, now ? markOf(it, now) : make("span", { className: "mark" }), pick,
+    rowHead(now ? markOf(it, now) : make("span", { className: "mark" }), pick,
       ...newMark(view.isNewThing(it))),
     cell("kind", ...kind), timeCell(it.last, settings),
     ageCell(it.heardAt, view), heardCell(it.by), cell("num sent", sentText(it)),
@@ -141,7 +142,7 @@ export function pairList(box, { id, caption, pairs, sent, tell }) {
         textContent: n ? String(n) : "", title: tell(source, name, n, of) });
     });
     return make("tr", { className: source === "all" ? "all" : "" },
-      make("th", { scope: "row", textContent: source }), ...cells, cell("num", String(of)));
+      rowHead(source), ...cells, cell("num", String(of)));
   };
   const list = new List(box, { id, caption, row, columns: [
     { title: "station", value: it => it },
@@ -175,15 +176,14 @@ export function waysFor({ name, clock }, isWrong, clockOf) {
 /** @param {Receiver} it @param {boolean} isWrong @param {View} view */
 const clockButtons = (it, isWrong, { clockOf }) => clockOf
   ? waysFor(it, isWrong, clockOf).map(({ words, by }) =>
-    make("button", { type: "button", className: "clock", textContent: words,
-      aria: { "aria-label": `${words} the clock of ${it.name}` },
-      onclick: () => clockOf.put(it.name, by) })) : [];
+    makeButton(words, () => clockOf.put(it.name, by), `${words} the clock of ${it.name}`,
+      { className: "clock" })) : [];
 /** @param {HTMLElement} box @param {View} view */
 export function receiverList(box, view) {
   const row = (/** @type {Receiver} */ it) => {
     const clock = clockWords(it, view.gap);
     return make("tr", { className: view.now - it.last > view.silent ? "silent" : "" },
-      make("th", { scope: "row", textContent: it.name }), timeCell(it.last, view.settings),
+      rowHead(it.name), timeCell(it.last, view.settings),
       ageCell(it.last, view), number(it.heard), number(it.alone),
       make("td", { className: clock.wrong ? "num wrong" : "num", title: clock.title }, clock.text,
         ...clockButtons(it, clock.wrong, view)));
@@ -213,11 +213,10 @@ export const isExcusedOf = ({ call, key, heardAt }, { isExcused }) =>
 export function rosterList(box, view, onPick) {
   const row = (/** @type {Waited} */ it) => {
     const { heardAt } = it, heard = heardAt > -Infinity, isExcused = isExcusedOf(it, view);
-    const call = heard ? make("button", { type: "button", className: "pick", title:
-      "show on the map", onclick: () => onPick(it.key) }, it.call) : it.call;
+    const call = heard ? pickButton(it.call, () => onPick(it.key)) : it.call;
     const marks = [...isExcused ? ["excused"] : view.isLongAgo(heardAt) ? ["silent"] : []];
     return make("tr", { className: marks.join(" ") },
-      make("th", { scope: "row" }, call), cell("text", letters(printable(it.name))),
+      rowHead(call), cell("text", letters(printable(it.name))),
       cell("group", letters(printable([it.group, it.bib].filter(Boolean).join(" ")))),
       heard ? timeCell(heardAt, view.settings) : cell("num time", "not heard",
         ...dealtNodes(homeOf(it.call), view.settings.names.shown(it.call), view, [ABSENT])),

@@ -3,7 +3,7 @@
 // the tab key: arrow keys go from row to row.
 
 import { SETS } from "./dealt-mark.js";
-import { choose, chosen, make, momentOf } from "../util/dom.js";
+import { choose, chosen, make, makeButton, momentOf } from "../util/dom.js";
 import { later } from "../util/task-queue.js";
 import { atOnce } from "../util/tasks.js";
 import { namesText } from "../util/text.js";
@@ -60,11 +60,6 @@ export class List {
      * @type {{ key: string, button: number } | null}
      */
     this.sought = null;
-    /**
-     * Where the keyboard goes on to once the entry of a key is dealt with.
-     * @type {{ from: string, to: List<T>["sought"] } | null}
-     */
-    this.onward = null;
     this.heads = columns.map((it, n) => this.headOf(it, n));
     this.body = make("tbody");
     this.table = make("table", { id, className: "sorted" },
@@ -82,7 +77,7 @@ export class List {
       this.rove(/** @type {HTMLElement} */ (event.target)));
     // before the button draws the list anew
     this.body.addEventListener("click", event =>
-      this.goOn(/** @type {HTMLElement} */ (event.target)), true);
+      this.goOn(/** @type {Element} */ (event.target)), true);
   }
   /** @param {Column<T>} column @param {number} n */
   headOf({ title, number, value }, n) {
@@ -90,7 +85,7 @@ export class List {
     const onclick = () => this.turn(n);
     return make("th", { scope: "col", className: number ? "num" : "",
       data: isText ? { column: title } : {} }, value && isText
-      ? make("button", { type: "button", textContent: title, onclick }) : title);
+      ? makeButton(title, onclick) : title);
   }
   /**
    * Sorts by a column; once more, the other way round.
@@ -110,7 +105,7 @@ export class List {
   show(items, stays = this.given === null) {
     const many = stays && this.scrolled ? Math.max(PART, this.built) : PART;
     const isNew = this.table.parentNode !== this.box;
-    this.sought = stays ? this.nextKeyboard() : null;
+    this.sought = stays ? this.keyboard : null;
     this.given = items;
     this.items = this.order ? this.sorted(items) : items;
     this.heads.forEach((head, n) => {
@@ -154,28 +149,15 @@ export class List {
   }
   /**
    * Where an entry is dealt with, which may send it to the list's end, the keyboard goes on to the
-   * next one that wants that, or else to the one before it.
-   * @param {HTMLElement} button
+   * next one that wants that, or else to the one before it, or to the list.
+   * @param {Element} button
    */
   goOn(button) {
-    const row = button.closest("tr"), { key } = row?.dataset || {};
-    if (!row || key === undefined || !button.classList.contains(SETS)) return;
-    const rows = [...this.body.rows], at = rows.indexOf(row);
-    const next = [...rows.slice(at + 1), ...rows.slice(0, at).reverse()]
-      .find(it => it.querySelector(`.${SETS}`));
-    this.onward = { from: key, to: next ? { key: next.dataset.key || "",
-      button: buttonsIn(next).findIndex(it => it.classList.contains(SETS)) } : null };
-  }
-  /** Which row gets the keyboard in another drawing; where no entry wants it, the list does. */
-  nextKeyboard() {
-    const { keyboard, onward } = this;
-    this.onward = null;
-    if (!onward || onward.from !== keyboard?.key) return keyboard;
-    if (!onward.to) {
-      this.table.tabIndex = -1;
-      this.table.focus({ preventScroll: true });
-    }
-    return onward.to;
+    const all = [...this.body.querySelectorAll(`.${SETS}`)], at = all.indexOf(button);
+    if (at < 0 || button !== document.activeElement) return;
+    this.table.tabIndex = -1;
+    /** @type {HTMLElement} */ (all[at + 1] || all[at - 1] || this.table)
+      .focus({ preventScroll: true });
   }
   /**
    * Gives the keyboard back to the row that had it, unless it went on.
@@ -316,8 +298,19 @@ const compared = (a, b) => typeof a === "number" && typeof b === "number" ? a - 
  */
 export const newMark = isNew =>
   isNew ? [" ", make("small", { className: "fresh", textContent: "new" })] : [];
+/**
+ * What leads to the place of a thing of a kind.
+ * @param {Node | string} shown @param {() => unknown} onclick
+ */
+export const pickButton = (shown, onclick, kind = "") => make("button",
+  { type: "button", className: `pick ${kind}`, title: "show on the map", onclick }, shown);
 /** @param {string} className @param {import("../util/dom.js").Inside[]} inside */
 export const cell = (className, ...inside) => make("td", { className }, ...inside);
+/**
+ * What a row is about.
+ * @param {import("../util/dom.js").Inside[]} inside
+ */
+export const rowHead = (...inside) => make("th", { scope: "row" }, ...inside);
 /**
  * Who heard something, all of them where there are few.
  * @param {string[]} names

@@ -1,7 +1,7 @@
 // @ts-check
 // How many transmissions there were in each part of the time, of all and of each station.
 
-import { cell, List } from "./table-view.js";
+import { cell, List, rowHead } from "./table-view.js";
 import { nameIn } from "../net/rows.js";
 import { make, svg } from "../util/dom.js";
 import { eachSince } from "../util/tasks.js";
@@ -32,7 +32,7 @@ export function* timelineList(box, rows, net, { sent, clock }) {
   });
   by.forEach((parts, n) => counts.set(nameIn(rows.things[n]), parts));
   const row = (/** @type {string} */ name) => make("tr", {},
-    make("th", { scope: "row", textContent: name }),
+    rowHead(name),
     cell("strip", stripOf(name, counts.get(name) || all)),
     cell("num", sentBy(name).toLocaleString("en")));
   const list = new List(box, { id: "timeline", caption: "when", row, columns: [

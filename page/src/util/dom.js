@@ -59,6 +59,14 @@ export function make(tag, of, ...inside) {
   return node;
 }
 /**
+ * A button with these words that runs something, and what says more of it, where something does.
+ * @param {string} textContent
+ * @param {() => unknown} onclick
+ * @param {Partial<HTMLButtonElement> & { data?: Record<string, string | number> }} [of]
+ */
+export const makeButton = (textContent, onclick, label = "", of = {}) => make("button",
+  { type: "button", textContent, onclick, ...label && { aria: { "aria-label": label } }, ...of });
+/**
  * What takes the keyboard in an element.
  * @param {HTMLElement} box
  */
@@ -80,7 +88,7 @@ export function replaceIn(box, nodes, nameOf, rest = null) {
   box.replaceChildren(...nodes);
   if (name === null) return;
   const stops = stopsIn(box);
-  const near = stops.slice(0, Math.max(0, at) + 1), links = near.filter(it => it.tagName === "A");
+  const near = stops.slice(0, at + 1 || 1), links = near.filter(it => it.tagName === "A");
   const after = stops.find(it => nameOf(it) === name) || links.at(-1) || near.at(-1) || rest;
   after?.focus({ preventScroll: true });
 }
