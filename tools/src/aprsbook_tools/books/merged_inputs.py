@@ -41,11 +41,12 @@ def plain(paths: Sequence[str], most_copied: int = -1) -> Iterator[List[str]]:
         try:
             yield []
         except Fault as fault:
-            fault.words += what_mends(fault, "standard input")
+            if fault.words.endswith(": NoNewline"):  # a book may have all others
+                fault.words += what_mends(fault, "standard input")
             raise
         return
     with contextlib.ExitStack() as stack:
-        paths = stack.enter_context(spooled(paths))
+        typed, paths = paths, stack.enter_context(spooled(paths))
         found = inputs.of(paths)
         if not found:
             raise Fault(f"no logs and no books are in {' '.join(paths)}")
@@ -68,7 +69,10 @@ def plain(paths: Sequence[str], most_copied: int = -1) -> Iterator[List[str]]:
         except Fault as fault:
             words = fault.words
             for it, file in zip(found, files):
-                words += "" if it.is_book else what_mends(fault, file, it.path)
+                if not it.is_book:
+                    is_kept = not inputs.is_pipe(it.path) and (
+                        it.path in typed or it.path not in paths)
+                    words += what_mends(fault, file, it.path if is_kept else "")
                 if folder and file.startswith(folder):
                     words = words.replace(file, it.path)
             raise Fault(words, fault.status, fault.by) from fault
@@ -76,7 +80,8 @@ def plain(paths: Sequence[str], most_copied: int = -1) -> Iterator[List[str]]:
 
 def what_mends(fault: Fault, file: str, path: str = "") -> str:
     """What is said behind a Fault of a line of a log, which is read from a file."""
-    if programs.fault_line(fault, file) is None:
+    if programs.fault_line(fault, file) is None or \
+            os.path.isfile(file) and inputs.begins_as_book(file):
         return ""
     import shlex  # only where something is wrong
 

@@ -258,10 +258,12 @@ def locked(path: str) -> Iterator[bool]:
     if fcntl is None:
         yield False
         return
+    lock = beside(path, "lock")
     try:
-        file = disk.open_own(beside(path, "lock"), os.O_RDWR | os.O_CREAT)
+        file = disk.open_own(lock, os.O_RDWR | os.O_CREAT)
     except OSError as fault:
-        raise Fault(said(fault), ExitStatus.OUTPUT) from fault
+        words = said(fault) if os.path.lexists(lock) else f"{path}: {fault.strerror}"
+        raise Fault(words, ExitStatus.OUTPUT) from fault
     try:
         has_waited = False
         try:
