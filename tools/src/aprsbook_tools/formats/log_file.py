@@ -181,7 +181,7 @@ def lock(path: str, file: int, say: Say) -> None:
 
 
 def make_folder(folder: str) -> None:
-    """Makes a folder where there is none. OSError where that can't be, as below a link to nothing."""
+    """Makes a folder where there is none. OSError where it can't be, as below a link to nothing."""
     try:
         os.makedirs(folder, exist_ok=True)
     except FileExistsError as fault:

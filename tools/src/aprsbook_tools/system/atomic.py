@@ -174,7 +174,7 @@ def mode_of_new(mode: int) -> int:
 
 
 def take_over(file: int, real: str, mode: int) -> None:
-    """Gives a file the owner and the mode of the one that it replaces, or this mode of a new one."""
+    """Gives a file the owner and the mode of the one that it replaces; a new one has this mode."""
     try:
         old = os.stat(real)
     except FileNotFoundError:
