@@ -73,7 +73,8 @@ def test_how_much_is_said(level: Level, said: str, capsys: pytest.CaptureFixture
 def test_words_are_shown_as_they_were_typed(typed: bytes, shown: bytes, mode: str) -> None:
     """Also where Python knows no coding but ASCII. What is an order to a terminal isn't shown."""
     env = environment(LC_ALL="C", PYTHONUTF8=mode)
-    for before in [], [b"mend"], [b"last-heard", b"--format"]:
+    befores: List[List[bytes]] = [[], [b"mend"], [b"last-heard", b"--format"]]
+    for before in befores:
         words = [*map(os.fsencode, command()), *before, b"x" + typed]
         done = subprocess.run(words, capture_output=True, env=env)
         assert b"udc" not in done.stderr
