@@ -4,7 +4,7 @@ import pathlib
 import sqlite3
 import subprocess
 import time
-from typing import Any, Dict, List, Tuple
+from typing import Any, Dict, List, Sequence, Tuple
 
 import pytest
 from hypothesis import given
@@ -260,7 +260,7 @@ def test_rows_put_in_together_are_those_put_in_alone(told: List[Shown], size: in
     lines = [dict(zip(own, (kind, name, name, *rest, ""))) for kind, name, *rest in told]
     for at_ in range(0, len(lines), size):
         part = lines[at_:at_ + size]
-        shown = [[it.get(name, "") for it in part] for name in names]
+        shown: List[Sequence[str]] = [[it.get(name, "") for it in part] for name in names]
         databases.insert(base, "things", [shown], 0)
     found = base.execute(f"select {', '.join(own)} from things order by rowid").fetchall()
     assert list(map(repr, found)) == list(map(repr, wanted))
