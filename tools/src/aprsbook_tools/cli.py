@@ -143,6 +143,7 @@ def hold_standard_files() -> None:
 def main(arguments: "Optional[Sequence[str]]" = None) -> int:
     """The program: as `run`, and ended by a signal as it has to be."""
     hold_standard_files()
+    stderr.prepare()
     if sys.version_info < LEAST_PYTHON:
         stderr.warn("it needs Python %d.%d or later, and this is %d.%d" % (
             *LEAST_PYTHON, *sys.version_info[:2]))

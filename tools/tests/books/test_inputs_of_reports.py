@@ -111,10 +111,33 @@ def test_a_compressed_log_is_read(programs: Programs) -> None:
 def test_a_fault_of_a_compressed_log_has_its_name(programs: Programs) -> None:
     (programs.folder / "RX1.log.gz").write_bytes(gzip.compress(b"faulty\n"))
     programs.run("tracks", "--format", "gpx", "RX1.log.gz", status=1)
-    assert programs.said == "aprsbook-table: RX1.log.gz: line 1: Moment\n"
+    assert programs.said == ("aprsbook-table: RX1.log.gz: line 1: Moment: "
+                             "aprs-net mend RX1.log.gz -o NEW.log writes its whole lines\n")
     (programs.folder / "RX1.log.gz").write_bytes(gzip.compress(b"faulty\n")[:-9])
     programs.run("tracks", "--format", "gpx", "RX1.log.gz", status=1)
     assert "RX1.log.gz" in programs.said
+
+
+def test_what_mends_a_log_is_said(programs: Programs) -> None:
+    """It said that line 7 has no newline, and not what to do. Nothing mends a book."""
+    (programs.folder / "a log").write_text("faulty")
+    (programs.folder / "a.book").write_text("faulty")
+    for words in ["last-heard"], ["page"], ["csv"], ["sqlite", "net.db"]:
+        programs.run(*words, "a log", status=1)
+        assert programs.said.endswith(
+            "a log: line 1: Moment: aprs-net mend 'a log' -o NEW.log writes its whole lines\n")
+        programs.run(*words, "a.book", status=1)
+        assert programs.said.endswith("a.book: line 1: Moment\n")
+    programs.run("keeper", "a log", status=1)
+    assert "line 1 is no whole line of a log (aprs-net mend takes it out)" in programs.said
+
+
+def test_nothing_is_an_empty_log(programs: Programs) -> None:
+    """To some commands /dev/null was no file."""
+    for words in ["last-heard"], ["page", "-o", "page.html"], ["keeper"], ["pcap", "-o", "cap"]:
+        programs.run(*words, os.devnull)
+    programs.run("clocks", os.devnull, status=1)
+    assert programs.said == "aprs-net: no two receivers heard the same frame\n"
 
 
 PACKS: Dict[str, Callable[[bytes], bytes]] = {
@@ -160,7 +183,8 @@ def test_a_pipe_of_the_shell_is_read(programs: Programs) -> None:
     os.close(writes)
     programs.run("last-heard", f"/dev/fd/{reads}", status=1)
     os.close(reads)
-    assert programs.said == f"aprsbook-table: /dev/fd/{reads}: line 1: Moment\n"
+    assert programs.said == (f"aprsbook-table: /dev/fd/{reads}: line 1: Moment: "
+                             "aprs-net mend writes its whole lines\n")
 
 
 @pytest.mark.parametrize("name, octets", [

@@ -164,3 +164,12 @@ def test_a_stick_that_is_taken_away(tmp_path: pathlib.Path, monkeypatch: pytest.
 def test_moments_that_a_program_has_shown(moment: int) -> None:
     text = moments.text_of(moment)
     assert moments.shown(text) == moments.milliseconds(text) == moment
+
+
+def test_a_link_to_nothing_is_no_folder_of_logs(tmp_path: pathlib.Path) -> None:
+    """Of a day whose stick isn't there it said: File exists."""
+    (tmp_path / DAY).symlink_to("gone")
+    said: List[str] = []
+    Logs(str(tmp_path), said.append).put("RX1", line())
+    assert said == [f"{tmp_path / DAY}: it is a link that leads nowhere: "
+                    "frames that are held: 1, lost: 0"]

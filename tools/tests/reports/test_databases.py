@@ -4,14 +4,16 @@ import pathlib
 import sqlite3
 import subprocess
 import time
-from typing import Any, Dict, List
+from typing import Any, Dict, List, Sequence, Tuple
 
 import pytest
+from hypothesis import given
+from hypothesis import strategies as st
 from standing import Programs, at, message, place, put, row, station
 
 from aprsbook_tools.errors import Fault
 from aprsbook_tools.formats.spreadsheet import read_csv
-from aprsbook_tools.reports import databases, table_files
+from aprsbook_tools.reports import databases, table, table_files
 from aprsbook_tools.reports.roster import Roster
 
 
@@ -225,6 +227,49 @@ def test_a_new_database_that_a_fault_takes_away_is_made_by_who_waits(
     assert asked(path, "select count(*) from places") == [(0,)]
 
 
+def test_a_new_database_is_there_once_it_is_whole(tmp_path: pathlib.Path) -> None:
+    """And one that another program has made meanwhile stays."""
+    path = tmp_path / "net.db"
+    with databases.writing(str(path), []) as base:
+        base.execute("create table mine (a)")
+        assert not path.exists()
+    assert asked(path, "select count(*) from mine") == [(0,)]
+    path.unlink()
+    with pytest.raises(Fault, match="another program has made it meanwhile"):
+        with databases.writing(str(path), []):
+            path.write_text("other")
+    assert path.read_text() == "other"
+    assert sorted(it.name for it in tmp_path.iterdir()) == [".net.db.lock", "net.db"]
+
+
+Shown = Tuple[str, str, str, str, str]
+SHOWN = st.tuples(st.sampled_from(["object", "item"]), st.sampled_from(["A", "it's", "{0}", ""]),
+                  st.sampled_from(["", "1.50", "-0.0001"]), st.sampled_from(["", "0", "7"]),
+                  st.sampled_from(["", "yes", "no"]))
+
+
+@given(st.lists(SHOWN, max_size=40), st.sampled_from([1, 7, 200]))
+def test_rows_put_in_together_are_those_put_in_alone(told: List[Shown], size: int) -> None:
+    """In their order, with numbers as numbers, and null for what isn't known."""
+    wanted = [(kind, name, name, float(north) if north else None, int(close) if close else None,
+               packed or None, "") for kind, name, north, close, packed in told]
+    names = table.columns_of(table.Thing)
+    own = ["kind", "name", "source", "latitude", "ambiguity", "compressed", "text"]
+    base = sqlite3.connect(":memory:")
+    base.execute(f"create table things ({', '.join(map(' '.join, columns_in_sql()))})")
+    lines = [dict(zip(own, (kind, name, name, *rest, ""))) for kind, name, *rest in told]
+    for at_ in range(0, len(lines), size):
+        part = lines[at_:at_ + size]
+        shown: List[Sequence[str]] = [[it.get(name, "") for it in part] for name in names]
+        databases.insert(base, "things", [shown], 0)
+    found = base.execute(f"select {', '.join(own)} from things order by rowid").fetchall()
+    assert list(map(repr, found)) == list(map(repr, wanted))
+
+
+def columns_in_sql() -> List[Tuple[str, str]]:
+    return [*databases.columns_of(table.Thing).items()]
+
+
 def test_csv_of_a_table(programs: Programs) -> None:
     fill(programs)
     shown = programs.run("csv", "--table", "rows", "net.log")
@@ -276,7 +321,8 @@ def test_columns_that_are_empty_are_one() -> None:
 
 
 @pytest.mark.parametrize("kinds, sizes", [
-    ("a", [1]), ("aab", [2, 1]), ("abbc", [1, 2, 1]), ("abca", [4]), ("", [])])
+    ("a", [1]), ("aab", [2, 1]), ("abbc", [1, 2, 1]), ("abca", [4]), ("", []),
+    (4 * (50 * "a" + 50 * "b"), 8 * [50]), (4 * (50 * "a" + 49 * "b"), [396])])
 def test_rows_of_a_kind_are_put_in_at_once(kinds: str, sizes: List[int]) -> None:
     """Where there are few kinds one behind another; all rows stand in their order."""
     parts = [*databases.parts_of(kinds)]

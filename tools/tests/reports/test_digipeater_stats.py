@@ -267,3 +267,13 @@ def test_no_place_is_refused(programs: Programs, at: str, status: int) -> None:
     fill(programs)
     programs.run("keeper", "--at", at, "net.log", status=status)
     assert f"--at {at}: " in programs.said
+
+
+@pytest.mark.parametrize("octets, words", [
+    (b"", "it is empty, which no packed file is"), (b"text", "Not a gzipped file"),
+    (gzip.compress(b"text")[:-1], "ended before")])
+def test_why_a_packed_log_cannot_be_read(programs: Programs, octets: bytes, words: str) -> None:
+    (programs.folder / "RX1.log.gz").write_bytes(octets)
+    programs.run("keeper", "RX1.log.gz", status=1)
+    assert programs.said.startswith("aprs-net: RX1.log.gz: can't be read to its end (")
+    assert words in programs.said

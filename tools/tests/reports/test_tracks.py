@@ -252,5 +252,6 @@ def test_what_a_program_refuses_is_said_in_its_words(
     (tmp_path / "bad.log").write_text("faulty\n")
     (tmp_path / "out.gpx").write_text("before")
     programs.run("tracks", "-o", "out.gpx", "--format", "gpx", "bad.log", status=1)
-    assert programs.said == "aprsbook-table: bad.log: line 1: Moment\n"
+    assert programs.said == ("aprsbook-table: bad.log: line 1: Moment: "
+                             "aprs-net mend bad.log -o NEW.log writes its whole lines\n")
     assert (tmp_path / "out.gpx").read_text() == "before"

@@ -263,7 +263,10 @@ def test_push_says_what_is_wrong(net: Served, tmp_path: pathlib.Path) -> None:
     token = tmp_path / "token"
     token.write_text(f"receiver HILL {net.tokens['HILL']}\n")
     said = tried("push", "--once", "--token", token, net.url, "HILL", tmp_path).stderr
-    assert b"lines pushed: " in said
+    assert b"lines pushed: " in said and b"not taken" not in said
+    (tmp_path / DAY / "HILL.log").write_bytes(line(1) + line(2, "COAST") + line(3, "COAST"))
+    said = tried("push", "--once", "--token", token, net.url, "HILL", tmp_path).stderr
+    assert b"lines pushed: 0; there before: 0; not taken: 2\n" in said
 
 
 def test_an_answer_of_somebody_else_is_not_believed(net: Served, tmp_path: pathlib.Path) -> None:

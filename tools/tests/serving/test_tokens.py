@@ -1,8 +1,9 @@
 """Tokens, marks and cookies."""
+import errno
 import os
 import pathlib
 import time
-from typing import List
+from typing import List, NoReturn
 
 import pytest
 from hypothesis import given
@@ -136,3 +137,28 @@ def test_a_token_stands_on_a_line_of_its_own(tmp_path: pathlib.Path, end: str) -
     path.chmod(0o600)
     token = tokens.add(str(path), "desk", "BASE")
     assert path.read_text() == f"receiver HILL {'x' * 32}\ndesk BASE {token}\n"
+
+
+def test_a_full_disk_leaves_no_file(tmp_path: pathlib.Path, monkeypatch: pytest.MonkeyPatch
+                                    ) -> None:
+    """It left an empty one, which `aprs-net serve` refused."""
+    def refuse(_: int) -> NoReturn:
+        raise OSError(errno.ENOSPC, os.strerror(errno.ENOSPC))
+    monkeypatch.setattr(os, "fsync", refuse)
+    path = tmp_path / "tokens"
+    with pytest.raises(Fault, match="tokens: No space left on device"):
+        tokens.add(str(path), "read", "HILL")
+    assert [it.name for it in tmp_path.iterdir()] == [".tokens.lock"]
+    path.write_text("# a note\n")
+    path.chmod(0o600)
+    with pytest.raises(Fault, match="tokens: No space left on device"):
+        tokens.add(str(path), "read", "HILL")
+    assert path.read_text() == "# a note\n"
+
+
+def test_what_is_no_file_gets_no_token(tmp_path: pathlib.Path) -> None:
+    """Of /dev/full it said: chmod 600 /dev/full."""
+    for name, words in ("", "is no file"), ("none/tokens", "no folder"):
+        with pytest.raises(Fault, match=words):
+            tokens.add(str(tmp_path / name), "read", "HILL")
+    assert not list(tmp_path.iterdir())

@@ -262,3 +262,10 @@ def test_nothing_is_called_compressed_that_is_not(tmp_path: pathlib.Path, ending
     with pytest.raises(Fault):
         atomic.write(str(tmp_path / f"net{ending}"), b"plain")
     assert names(tmp_path) == []
+
+
+def test_what_cannot_be_written_is_named_and_not_its_lock(tmp_path: pathlib.Path) -> None:
+    """In a folder that is read-only the hidden name was told, with the whole path."""
+    with pytest.raises(Fault) as caught, atomic.locked(str(tmp_path / "none/file")):
+        pass
+    assert caught.value.words == f"{tmp_path / 'none/file'}: No such file or directory"

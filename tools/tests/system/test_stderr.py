@@ -2,6 +2,7 @@
 import os
 import pathlib
 import subprocess
+import sys
 from typing import List
 
 import pytest
@@ -62,3 +63,26 @@ def test_how_much_is_said(level: Level, said: str, capsys: pytest.CaptureFixture
     finally:
         stderr.set_level(Level.PLAIN)
     assert capsys.readouterr().err == "".join(f"aprs-net: {it}\n" for it in said.split())
+
+
+@pytest.mark.skipif(sys.platform != "linux", reason="of bytes that are typed")
+@pytest.mark.parametrize("mode", ["0", "1"])
+@pytest.mark.parametrize("typed, shown", [
+    (b"k\xc3\xa4se", b"k\xc3\xa4se"), (b"k\xe4se", b"k\xe4se"), (b"\x9b1m", b"\\x9b1m"),
+    (b"\xc2\x9b1m", b"\\xc2\\x9b1m"), (b"\xe2\x80\xae", b"\\xe2\\x80\\xae")])
+def test_words_are_shown_as_they_were_typed(typed: bytes, shown: bytes, mode: str) -> None:
+    """Also where Python knows no coding but ASCII. What is an order to a terminal isn't shown."""
+    env = environment(LC_ALL="C", PYTHONUTF8=mode)
+    befores: List[List[bytes]] = [[], [b"mend"], [b"last-heard", b"--format"]]
+    for before in befores:
+        words = [*map(os.fsencode, command()), *before, b"x" + typed]
+        done = subprocess.run(words, capture_output=True, env=env)
+        assert b"udc" not in done.stderr
+        assert b"x" + shown in done.stderr or b"--format" in before and typed != shown
+
+
+@pytest.mark.parametrize("text, shown", [
+    ("a\ud800b", "a\\xed\\xa0\\x80b"), ("\udc85", "\\x85"), ("\udcff", "\udcff"),
+    (r"\udc41", r"\udc41"), ("\u202e\x1b", r"\xe2\x80\xae\x1b"), ("\U0001f3c3", "\U0001f3c3")])
+def test_what_can_be_shown(text: str, shown: str) -> None:
+    assert stderr.printable(text) == shown

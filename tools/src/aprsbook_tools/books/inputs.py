@@ -272,6 +272,12 @@ def whole_lines(octets: bytes) -> List[bytes]:
             if log_file.read_whole(line) is not None]
 
 
+def begins_as_book(path: str) -> bool:
+    """Whether a file that isn't packed begins as a book, whatever its name."""
+    with open(path, "rb") as file:
+        return file.read(len(book_file.BEGIN)) == book_file.BEGIN
+
+
 def gap_of(path: str) -> Optional[int]:
     """The gap of a book file in seconds; None of what is no book."""
     with unpacking(path) as file:

@@ -11,7 +11,7 @@ from aprsbook_tools.errors import Fault
 from aprsbook_tools.system import programs, streams, temporary
 
 if TYPE_CHECKING:
-    from typing import IO, ContextManager, Iterator, List, Optional, Sequence
+    from typing import IO, ContextManager, Iterator, List, Optional, Sequence, Set, Tuple
 
 
 @contextlib.contextmanager
@@ -41,11 +41,12 @@ def plain(paths: Sequence[str], most_copied: int = -1) -> Iterator[List[str]]:
         try:
             yield []
         except Fault as fault:
-            fault.words += what_mends(fault, "standard input")
+            if fault.words.endswith(": NoNewline"):  # a book may have all others
+                fault.words += what_mends(fault, "standard input")
             raise
         return
     with contextlib.ExitStack() as stack:
-        paths = stack.enter_context(spooled(paths))
+        typed, paths = paths, stack.enter_context(spooled(paths))
         found = inputs.of(paths)
         if not found:
             raise Fault(f"no logs and no books are in {' '.join(paths)}")
@@ -66,17 +67,28 @@ def plain(paths: Sequence[str], most_copied: int = -1) -> Iterator[List[str]]:
         try:
             yield files
         except Fault as fault:
-            words = fault.words
-            for it, file in zip(found, files):
-                words += "" if it.is_book else what_mends(fault, file, it.path)
-                if folder and file.startswith(folder):
-                    words = words.replace(file, it.path)
+            words = said_of(fault, [*zip(found, files)], folder, {*paths} - {*typed})
             raise Fault(words, fault.status, fault.by) from fault
+
+
+def said_of(fault: Fault, read: Sequence[Tuple[inputs.Input, str]], folder: str, gone: Set[str]
+            ) -> str:
+    """What a program said of inputs, each with the file that it read, perhaps in a folder; and what
+    mends a log that is there still."""
+    words = fault.words
+    for it, file in read:
+        if not it.is_book:
+            is_there = it.path not in gone and not inputs.is_pipe(it.path)
+            words += what_mends(fault, file, it.path if is_there else "")
+        if folder and file.startswith(folder):
+            words = words.replace(file, it.path)
+    return words
 
 
 def what_mends(fault: Fault, file: str, path: str = "") -> str:
     """What is said behind a Fault of a line of a log, which is read from a file."""
-    if programs.fault_line(fault, file) is None:
+    if programs.fault_line(fault, file) is None or \
+            os.path.isfile(file) and inputs.begins_as_book(file):
         return ""
     import shlex  # only where something is wrong
 

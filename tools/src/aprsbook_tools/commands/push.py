@@ -46,7 +46,8 @@ def run(args: argparse.Namespace) -> int:
     pusher = push_options.pusher_of(args, args.url, args.logs, args.days)
     if args.once:
         pushing.push_once(pusher)
-        push_options.say(f"lines pushed: {pusher.added}; there before: {pusher.known}")
+        more = f"; not taken: {pusher.left_out}" if pusher.left_out else ""
+        push_options.say(f"lines pushed: {pusher.added}; there before: {pusher.known}{more}")
         return 0
     pushing.push_on(pusher, args.each, push_options.say)
     return 0

@@ -180,12 +180,22 @@ def lock(path: str, file: int, say: Say) -> None:
     fcntl.flock(file, fcntl.LOCK_EX)
 
 
+def make_folder(folder: str) -> None:
+    """Makes a folder where there is none. OSError where it can't be, as below a link to nothing."""
+    try:
+        os.makedirs(folder, exist_ok=True)
+    except FileExistsError as fault:
+        at = fault.filename
+        words = "it is a link that leads nowhere" if os.path.islink(at) else "it is no folder"
+        raise OSError(errno.ENOTDIR, words, at) from fault
+
+
 def append(path: str, line: bytes, say: Say, sync: bool = False) -> bool:
     """Puts a line behind a log, whole or not at all, and on the disk where that is asked for.
     Whether the log is new."""
     folder = os.path.dirname(path)
     if folder:
-        os.makedirs(folder, exist_ok=True)
+        make_folder(folder)
     flags = os.O_RDWR | os.O_CREAT | os.O_APPEND | getattr(os, "O_BINARY", 0)
     file = disk.open_own(path, flags, 0o644)
     try:

@@ -4,8 +4,8 @@ import collections
 import os
 from typing import Iterable, Optional, Sequence, Tuple
 
+from aprsbook_tools.books import inputs
 from aprsbook_tools.books.receptions import lines_in, lines_of, table_of
-from aprsbook_tools.formats import book_file
 from aprsbook_tools.formats.log_file import Line
 from aprsbook_tools.reports import digipeater_stats, table
 from aprsbook_tools.reports.table import Row
@@ -32,12 +32,6 @@ def of_log(octets: bytes) -> Optional[str]:
     return of_lines(lines_in(octets, "the log")) if len(octets) <= MOST else None
 
 
-def is_log(path: str) -> bool:
-    """Whether a file that was merged is a log, and no book."""
-    with open(path, "rb") as file:
-        return not file.read(len(book_file.BEGIN)).startswith(book_file.BEGIN)
-
-
 def are_small(paths: Sequence[str]) -> bool:
     return sum(map(os.path.getsize, paths)) <= MOST
 
@@ -45,6 +39,6 @@ def are_small(paths: Sequence[str]) -> bool:
 def of_files(paths: Sequence[str]) -> Optional[str]:
     """The same of files that were merged; None where one of them is no log, or they are too
     large."""
-    if not are_small(paths) or not all(map(is_log, paths)):
+    if not are_small(paths) or any(map(inputs.begins_as_book, paths)):
         return None
     return of_lines(line for path in paths for line in lines_of(path))

@@ -209,6 +209,11 @@ class Pusher:
         self.logs: Dict[str, Log] = {}
         self.added = self.known = 0
 
+    @property
+    def left_out(self) -> int:
+        """How many lines aren't taken."""
+        return sum(it.left_out for it in self.logs.values())
+
     def look(self) -> List[Log]:
         """The logs of the last days that have something new."""
         try:

@@ -174,7 +174,7 @@ def mode_of_new(mode: int) -> int:
 
 
 def take_over(file: int, real: str, mode: int) -> None:
-    """Gives a file the owner and the mode of the one that it replaces, or this mode of a new one."""
+    """Gives a file the owner and the mode of the one that it replaces; a new one has this mode."""
     try:
         old = os.stat(real)
     except FileNotFoundError:
@@ -258,10 +258,12 @@ def locked(path: str) -> Iterator[bool]:
     if fcntl is None:
         yield False
         return
+    lock = beside(path, "lock")
     try:
-        file = disk.open_own(beside(path, "lock"), os.O_RDWR | os.O_CREAT)
+        file = disk.open_own(lock, os.O_RDWR | os.O_CREAT)
     except OSError as fault:
-        raise Fault(said(fault), ExitStatus.OUTPUT) from fault
+        words = said(fault) if os.path.lexists(lock) else f"{path}: {fault.strerror}"
+        raise Fault(words, ExitStatus.OUTPUT) from fault
     try:
         has_waited = False
         try:
