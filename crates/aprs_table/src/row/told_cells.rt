@@ -357,8 +357,8 @@ fn push_form(out: &mut ArrayVec<u8, MAX_PLACE>, place: &Place)
     }
 }
 
-/// The fields of a time stamp, and of a course, a speed and an altitude that are unknown, each after
-/// a tab.
+/// The fields of a time stamp, and of a course, a speed and an altitude that are unknown, each
+/// after a tab.
 fn stamp_text(stamp: &Stamp) -> ArrayVec<u8, 11>
     ensures { result.items ≡ flat_map Spec.after_tab
         (Cells.stamp_field (Some stamp.now) ∷ [] ∷ [] ∷ [] ∷ []) }
@@ -371,8 +371,8 @@ fn stamp_text(stamp: &Stamp) -> ArrayVec<u8, 11>
 }
 
 /// Puts the fields of a report's time stamp, and of its subject's course, speed and altitude, each
-/// after a tab. All that is put at once where none of them, or only a stamp, is known. Fails where the
-/// output is refused.
+/// after a tab. All that is put at once where none of them, or only a stamp, is known. Fails where
+/// the output is refused.
 fn put_motion<W: Write>(out: &mut Outlet<'_, W>, told: &Told<'_>) -> Result<(), WriteFault>
     ensures { Puts W.contents result out.old out.new
         (flat_map Spec.after_tab (Cells.motion_cells (told_view told.now))) }
