@@ -192,7 +192,7 @@ def said_by(crate: str) -> str:
         return crates.without_comments(wrong_bodies.without_bodies(text))
 
     def of_others(text: bytes) -> bytes:
-        return crates.without_comments(wrong_bodies.seen_from_outside(text))
+        return wrong_bodies.seen_from_outside(crates.without_comments(text))
 
     plain, lower = crates.without_comments, crates.below(crate)
     own = crates.sum_of([crate], plain, ["specs", "proofs"], EXAMPLES)

@@ -18,6 +18,10 @@ FUNCTION = re.compile(
 # what is said of a function to the compiler or the prover alone
 TO_TOOLS = re.compile(rb"^ *#\[(?:inline|cold|tactic)\b.*\n", re.M)
 CONSTANT = re.compile(r"^ *(?:pub(?:\([a-z ]+\))? )?(?:const|static) (\w+):", re.M)
+# an import: what it is, its path, and its names where it has several
+IMPORT = re.compile(r"^ *((?:ghost )?use) ([^;{}]*)(?:\{([^{}]*)\})?;\n", re.M)
+# a constant that no other crate sees, on a line of its own
+OWN_CONSTANT = re.compile(r"^ *const (\w+):.*;\n", re.M)
 
 
 class Function(NamedTuple):
@@ -78,9 +82,36 @@ def without_bodies(source: bytes) -> bytes:
 
 
 def seen_from_outside(source: bytes) -> bytes:
-    """A source file as other crates know it: without the bodies of its functions, without the functions
-    that no other crate can call, and without what is said to the compiler or the prover alone."""
-    return TO_TOOLS.sub(b"", kept_of(source, is_callable))
+    """A source file as other crates know it: without the bodies of its functions, without the
+    functions that no other crate can call, without what is said to the compiler or the prover
+    alone, and without imports and constants of its own that nothing of the rest names."""
+    text = TO_TOOLS.sub(b"", kept_of(source, is_callable)).decode("utf-8")
+    before = ""
+    while text != before:
+        before, text = text, without_unnamed(text)
+    return text.encode("utf-8")
+
+
+def without_unnamed(text: str) -> str:
+    """A text without blank lines, and without imports and constants of its own that nothing else in
+    it names."""
+    rest = IMPORT.sub("", text)
+
+    def is_named(word: str, most: int = 0) -> bool:
+        # of an operator, whose places are marked, any part may be what stands in the text
+        parts = [it for it in word.split(" as ")[-1].strip().split("◌") if it.strip()]
+        return any(len(re.findall(rf"(?<!\w){re.escape(it)}(?!\w)", rest)) > most for it in parts)
+
+    def named(found: "re.Match[str]") -> str:
+        kind, path, names = found.groups()
+        if names is None:
+            return found[0] if is_named(re.split(r"::|\.", path)[-1]) else ""
+        kept = sorted(it.strip() for it in names.split(",") if is_named(it))
+        return "".join(f"{kind} {path}{it};\n" for it in kept)
+
+    text = IMPORT.sub(named, text)
+    text = OWN_CONSTANT.sub(lambda it: it[0] if is_named(it[1], 1) else "", text)
+    return re.sub(r"\n\s*\n", "\n", text)
 
 
 def is_callable(head: "re.Match[str]", code: str) -> bool:

@@ -98,6 +98,24 @@ class Edits(unittest.TestCase):
         self.assertNotEqual(seen(of_trait.replace("-> u8", "-> u16")), seen(of_trait))
         self.assertNotEqual(seen(SOURCE.replace("usize = 8", "usize = 9")), seen(SOURCE))
 
+    def test_what_nothing_of_it_names(self) -> None:
+        def seen(text: str) -> bytes:
+            return wrong_bodies.seen_from_outside(text.encode())
+
+        self.assertEqual(seen(SOURCE.replace("2 * MOST", "3 * MOST")), seen(SOURCE))
+        larger = SOURCE.replace("SIZE: usize = 4", "SIZE: usize = 5")
+        self.assertNotEqual(seen(larger), seen(SOURCE))
+        self.assertEqual(seen(SOURCE.replace("{Thing, more}", "{Thing, fewer}")), seen(SOURCE))
+        public = SOURCE.replace("fn entry(at: usize)", "pub fn entry(at: Thing)")
+        self.assertEqual(seen(public.replace("{Thing, more}", "{Thing}")), seen(public))
+        self.assertNotEqual(seen(public.replace("{Thing, more}", "{other::Thing}")), seen(public))
+        ghost = "ghost use math.{◌≤◌, ◌⊎◌};\n"
+        low = "pub fn low(a: u8)\n    ensures { a ≤ 1 }\n{}\n"
+        clause = low + SOURCE
+        self.assertEqual(seen(ghost + clause), seen(ghost.replace(", ◌⊎◌", "") + clause))
+        self.assertNotEqual(seen(ghost + clause), seen(ghost.replace("◌≤◌, ", "") + clause))
+        self.assertEqual(seen(ghost + SOURCE), seen(SOURCE))
+
     def test_a_body_is_its_function(self) -> None:
         self.assertEqual(self.changed("count > TWICE", "count < TWICE"), {"is_long"})
 
