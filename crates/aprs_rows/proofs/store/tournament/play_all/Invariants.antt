@@ -1,11 +1,11 @@
 use Rattle.std.proofs.Common.{◌<◌, ◌≤◌, length}
-use Rattle.aprs_fold.specs.Matches.{IsPlayedBut}
-use Rattle.aprs_fold.proofs.tournament.play_all.Given as goal
+use Rattle.aprs_rows.specs.Matches.{IsPlayedBut}
+use Rattle.aprs_rows.proofs.store.tournament.play_all.Given as goal
 
 abbrev pub invariant-loop-number : goal.invariant-loop-number
 invariant-loop-number g l = record {
   most : l.number ≤ length l.streams;
-  played : IsPlayedBut l.streams l.winners (λ k. k < l.number);
+  played : IsPlayedBut g.T.HasFront.front l.streams l.winners (λ k. k < l.number);
 }
 
 abbrev pub decreases-loop-number : goal.decreases-loop-number

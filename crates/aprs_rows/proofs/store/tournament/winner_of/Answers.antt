@@ -1,6 +1,6 @@
 use Rattle.std.proofs.Common.{sym}
-use Rattle.aprs_fold.proofs.Matches.{winner_of-get, winner_of-past}
-use Rattle.aprs_fold.proofs.tournament.winner_of.Goals as goal
+use Rattle.aprs_rows.proofs.Matches.{winner_of-get, winner_of-past}
+use Rattle.aprs_rows.proofs.store.tournament.winner_of.Goals as goal
 
 pub returns-then-number-winners : goal.returns-then-number-winners
 returns-then-number-winners c =

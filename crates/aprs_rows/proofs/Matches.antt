@@ -1,10 +1,10 @@
 -- Matches between the rows in front of several streams.
-use Rattle.aprs_fold.proofs.Common.{◌≡◌, ◌≢◌, ◌<◌, ◌≤◌, ◌+◌, ◌-◌, ◌⊎◌, ◌∙◌, ℕ, zero, suc, List, [], ◌∷◌, length, get_or, set, Option, inl, inr, refl, sym, ap, subst, arith, cases_lt, Row}
-use Rattle.std.proofs.Common.{◌*◌, ◌/◌, ◌==◌, true, false}
-use Rattle.aprs_bookfile.specs.declared.row_stream.RowStream.{RowStream}
-use Rattle.aprs_fold.specs.Fronts.{row_at, NotAfter}
-use Rattle.aprs_fold.specs.Matches.{halved, winner_of, AreWithin, IsAbove, IsPlayed, IsPlayedBut, IsWon}
-use Rattle.aprs_fold.proofs.Fronts.{NotAfter-itself, NotAfter-then}
+use Rattle.aprs_rows.proofs.Common.{◌≡◌, ◌<◌, ◌≤◌, ◌+◌, ◌-◌, ◌*◌, ◌/◌, ◌==◌, ◌⊎◌, ◌∙◌, ℕ, zero, suc, true, false, List, [], ◌∷◌, length, get_or, Option, inl, inr, refl, sym, ap, subst, arith, Row}
+use Rattle.std.proofs.lemmas.Bool.{cases_lt}
+use Rattle.std.specs.Prelude.{◌≢◌, set}
+use Rattle.aprs_rows.specs.Fronts.{row_at, NotAfter}
+use Rattle.aprs_rows.specs.Matches.{halved, winner_of, AreWithin, IsAbove, IsPlayed, IsPlayedBut, IsWon}
+use Rattle.aprs_rows.proofs.Fronts.{NotAfter-itself, NotAfter-then}
 
 -- ---- who won
 
@@ -91,16 +91,16 @@ pub some_of : (count : ℕ) → (count == 0) ≡ false → 0 < count
 some_of zero e = absurd (let f : true ≡ false = e in cc)
 some_of (suc count) e = omega arith
 
-module _ {A : Type 0} (streams : List (RowStream A)) where
-  not_after : (i j k l : ℕ) → i ≡ j → k ≡ l → NotAfter (row_at streams i) (row_at streams k)
-      → NotAfter (row_at streams j) (row_at streams l)
-  not_after i j k l e f h = subst (λ (n : ℕ). NotAfter (row_at streams n) (row_at streams l)) e
-      (subst (λ (n : ℕ). NotAfter (row_at streams i) (row_at streams n)) f h)
+module _ {X : Type 0} (front : X → Option Row) (streams : List X) where
+  not_after : (i j k l : ℕ) → i ≡ j → k ≡ l → NotAfter (row_at front streams i) (row_at front streams k)
+      → NotAfter (row_at front streams j) (row_at front streams l)
+  not_after i j k l e f h = subst (λ (n : ℕ). NotAfter (row_at front streams n) (row_at front streams l)) e
+      (subst (λ (n : ℕ). NotAfter (row_at front streams i) (row_at front streams n)) f h)
 
   won_stays : (old new : List ℕ) (k : ℕ) → winner_of new k ≡ winner_of old k
       → winner_of new (2 * k) ≡ winner_of old (2 * k)
       → winner_of new (2 * k + 1) ≡ winner_of old (2 * k + 1)
-      → IsWon streams old k → IsWon streams new k
+      → IsWon front streams old k → IsWon front streams new k
   won_stays old new k own left right h = record {
     either = elim h.either [
       | inl e ↦ inl (own ∙ e ∙ sym left)
@@ -115,9 +115,9 @@ module _ {A : Type 0} (streams : List (RowStream A)) where
   -- the match that was played
   pub won_here : (old : List ℕ) (i x one other : ℕ) → 0 < i → i < length old
       → one ≡ winner_of old (2 * i) → other ≡ winner_of old (2 * i + 1)
-      → (x ≡ one) ⊎ (x ≡ other) → NotAfter (row_at streams x) (row_at streams one)
-      → NotAfter (row_at streams x) (row_at streams other)
-      → IsWon streams (set old i x) i
+      → (x ≡ one) ⊎ (x ≡ other) → NotAfter (row_at front streams x) (row_at front streams one)
+      → NotAfter (row_at front streams x) (row_at front streams other)
+      → IsWon front streams (set old i x) i
   won_here old i x one other some within left right either least more =
       let own = winner_of-same old i x within in
       let first : one ≡ winner_of (set old i x) (2 * i) =
@@ -137,12 +137,12 @@ module _ {A : Type 0} (streams : List (RowStream A)) where
 
   -- one match more was played, and those just after it are to be played
   pub played_one : (old new : List ℕ) (i : ℕ) (Open Next : ℕ → Type 0)
-      → IsPlayedBut streams old Open → 0 < i → i < length streams
-      → length new ≡ length streams → IsWon streams new i
+      → IsPlayedBut front streams old Open → 0 < i → i < length streams
+      → length new ≡ length streams → IsWon front streams new i
       → ((k : ℕ) → k ≢ i → winner_of new k ≡ winner_of old k)
       → ((k : ℕ) → Open k → (k ≡ i) ⊎ Next k)
       → ((k : ℕ) → 0 < k → (2 * k ≡ i) ⊎ (2 * k + 1 ≡ i) → Next k)
-      → IsPlayedBut streams new Next
+      → IsPlayedBut front streams new Next
   played_one old new i Open Next h some lt each won others left after = record {
     each = each;
     within = λ k less. elim (same_or_not k i) [
@@ -151,7 +151,7 @@ module _ {A : Type 0} (streams : List (RowStream A)) where
           let same = others k unlike in omega (arith, own, same))
     ];
     won = λ k most less. elim (same_or_not k i) [
-      | inl e ↦ inl (subst (λ (j : ℕ). IsWon streams new j) (sym e) won)
+      | inl e ↦ inl (subst (λ (j : ℕ). IsWon front streams new j) (sym e) won)
       | inr unlike ↦ elim (same_or_not (2 * k) i) [
         | inl e ↦ inr (after k most (inl e))
         | inr before ↦ elim (same_or_not (2 * k + 1) i) [
@@ -176,8 +176,8 @@ module _ {A : Type 0} (streams : List (RowStream A)) where
           let own = h.within (2 * i + 1) (omega (arith, lt)) in omega (arith, e, same, own))
     ]
 
-  module _ (ws : List ℕ) (h : IsPlayed streams ws) where
-    is_won : (k : ℕ) → 0 < k → k < length streams → IsWon streams ws k
+  module _ (ws : List ℕ) (h : IsPlayed front streams ws) where
+    is_won : (k : ℕ) → 0 < k → k < length streams → IsWon front streams ws k
     is_won k some lt = elim (h.won k some lt) [ inl w ↦ w | inr never ↦ absurd never ]
 
     -- a stream's matches come after it
@@ -231,14 +231,14 @@ module _ {A : Type 0} (streams : List (RowStream A)) where
     ]
 
     -- one stream's row is another than before: its matches have to be played again
-    pub opened_again : (others : List (RowStream A)) (s : ℕ)
+    pub opened_again : (others : List (X)) (s : ℕ)
         → length others ≡ length streams
-        → ((k : ℕ) → k ≢ s → row_at others k ≡ row_at streams k)
-        → IsPlayedBut others ws (IsAbove (length others + s))
+        → ((k : ℕ) → k ≢ s → row_at front others k ≡ row_at front streams k)
+        → IsPlayedBut front others ws (IsAbove (length others + s))
     opened_again others s len same =
         subst (λ (n : ℕ). (each : length ws ≡ n) → AreWithin ws n
-        → ((k : ℕ) → 0 < k → k < n → IsWon others ws k ⊎ IsAbove (n + s) k)
-        → IsPlayedBut others ws (IsAbove (length others + s))) len
+        → ((k : ℕ) → 0 < k → k < n → IsWon front others ws k ⊎ IsAbove (n + s) k)
+        → IsPlayedBut front others ws (IsAbove (length others + s))) len
         (λ each within won. record { each = each; within = within; won = won })
         h.each h.within
         (λ k some lt. elim (same_or_not (winner_of ws k) s) [
@@ -253,87 +253,87 @@ module _ {A : Type 0} (streams : List (RowStream A)) where
             ]
           ]
         ]) where
-          won_on : (k : ℕ) → row_at others (winner_of ws k) ≡ row_at streams (winner_of ws k)
-              → row_at others (winner_of ws (2 * k)) ≡ row_at streams (winner_of ws (2 * k))
-              → row_at others (winner_of ws (2 * k + 1))
-              ≡ row_at streams (winner_of ws (2 * k + 1))
-              → IsWon streams ws k → IsWon others ws k
+          won_on : (k : ℕ) → row_at front others (winner_of ws k) ≡ row_at front streams (winner_of ws k)
+              → row_at front others (winner_of ws (2 * k)) ≡ row_at front streams (winner_of ws (2 * k))
+              → row_at front others (winner_of ws (2 * k + 1))
+              ≡ row_at front streams (winner_of ws (2 * k + 1))
+              → IsWon front streams ws k → IsWon front others ws k
           won_on k own left right w = record {
             either = w.either;
             one = subst (λ (o : Option Row). NotAfter o
-                (row_at others (winner_of ws (2 * k)))) (sym own)
-                (subst (λ (o : Option Row). NotAfter (row_at streams (winner_of ws k)) o)
+                (row_at front others (winner_of ws (2 * k)))) (sym own)
+                (subst (λ (o : Option Row). NotAfter (row_at front streams (winner_of ws k)) o)
                 (sym left) w.one);
             other = subst (λ (o : Option Row). NotAfter o
-                (row_at others (winner_of ws (2 * k + 1)))) (sym own)
-                (subst (λ (o : Option Row). NotAfter (row_at streams (winner_of ws k)) o)
+                (row_at front others (winner_of ws (2 * k + 1)))) (sym own)
+                (subst (λ (o : Option Row). NotAfter (row_at front streams (winner_of ws k)) o)
                 (sym right) w.other);
           }
 
     -- the last match's winner comes after none
     last_least : (most k : ℕ) → k ≤ most → 0 < k → k < length streams + length streams
-        → NotAfter (row_at streams (winner_of ws 1)) (row_at streams (winner_of ws k))
+        → NotAfter (row_at front streams (winner_of ws 1)) (row_at front streams (winner_of ws k))
     last_least zero k le some lt = absurd (omega (arith, le, some))
     last_least (suc most) k le some lt = elim (cases_lt 1 k) [
       | inr one ↦ (let same : 1 ≡ k = omega (arith, one, some) in
-          subst (λ (j : ℕ). NotAfter (row_at streams (winner_of ws 1))
-          (row_at streams (winner_of ws j))) same
-          (NotAfter-itself (row_at streams (winner_of ws 1))))
+          subst (λ (j : ℕ). NotAfter (row_at front streams (winner_of ws 1))
+          (row_at front streams (winner_of ws j))) same
+          (NotAfter-itself (row_at front streams (winner_of ws 1))))
       | inl more ↦
           let w = is_won (k / 2) (omega (arith, more)) (omega (arith, lt)) in
           let before = last_least most (k / 2) (omega (arith, le, more)) (omega (arith, more))
           (omega (arith, lt)) in
           elim (cases_lt (2 * (k / 2)) k) [
             | inl odd ↦ (let same : 2 * (k / 2) + 1 ≡ k = omega (arith, odd) in
-                subst (λ (j : ℕ). NotAfter (row_at streams (winner_of ws 1))
-                (row_at streams (winner_of ws j))) same
-                (NotAfter-then (row_at streams (winner_of ws 1))
-                (row_at streams (winner_of ws (k / 2)))
-                (row_at streams (winner_of ws (2 * (k / 2) + 1))) before w.other))
+                subst (λ (j : ℕ). NotAfter (row_at front streams (winner_of ws 1))
+                (row_at front streams (winner_of ws j))) same
+                (NotAfter-then (row_at front streams (winner_of ws 1))
+                (row_at front streams (winner_of ws (k / 2)))
+                (row_at front streams (winner_of ws (2 * (k / 2) + 1))) before w.other))
             | inr even ↦ (let same : 2 * (k / 2) ≡ k = omega (arith, even) in
-                subst (λ (j : ℕ). NotAfter (row_at streams (winner_of ws 1))
-                (row_at streams (winner_of ws j))) same
-                (NotAfter-then (row_at streams (winner_of ws 1))
-                (row_at streams (winner_of ws (k / 2)))
-                (row_at streams (winner_of ws (2 * (k / 2)))) before w.one))
+                subst (λ (j : ℕ). NotAfter (row_at front streams (winner_of ws 1))
+                (row_at front streams (winner_of ws j))) same
+                (NotAfter-then (row_at front streams (winner_of ws 1))
+                (row_at front streams (winner_of ws (k / 2)))
+                (row_at front streams (winner_of ws (2 * (k / 2)))) before w.one))
           ]
     ]
 
     winner_least : (k : ℕ) → k < length streams
-        → NotAfter (row_at streams (winner_of ws 1)) (row_at streams k)
+        → NotAfter (row_at front streams (winner_of ws 1)) (row_at front streams k)
     winner_least k lt =
         let each = h.each in
         let own = winner_of-past ws (length streams + k) (omega (arith, each)) in
         let same : winner_of ws (length streams + k) ≡ k = omega (arith, own, each) in
-        subst (λ (j : ℕ). NotAfter (row_at streams (winner_of ws 1)) (row_at streams j)) same
+        subst (λ (j : ℕ). NotAfter (row_at front streams (winner_of ws 1)) (row_at front streams j)) same
         (last_least (length streams + k) (length streams + k) (omega arith) (omega (arith, lt))
         (omega (arith, lt)))
 
     -- so the winner is the first
     pub winner_first : (first : ℕ) → first ≡ winner_of ws 1 → 0 < length streams
         → (first < length streams)
-        × ((k : ℕ) → k < length streams → NotAfter (row_at streams first) (row_at streams k))
+        × ((k : ℕ) → k < length streams → NotAfter (row_at front streams first) (row_at front streams k))
     winner_first first is some =
         let own = h.within 1 (omega (arith, some)) in (
           omega (arith, is, own),
-          λ k lt. subst (λ (j : ℕ). NotAfter (row_at streams j) (row_at streams k)) (sym is)
+          λ k lt. subst (λ (j : ℕ). NotAfter (row_at front streams j) (row_at front streams k)) (sym is)
               (winner_least k lt),
         )
 
 -- before the first match
-pub none_played : {A : Type 0} (streams : List (RowStream A)) (ws : List ℕ)
+pub none_played : {X : Type 0} (front : X → Option Row) (streams : List X) (ws : List ℕ)
     → length ws ≡ length streams → AreWithin ws (length streams)
-    → IsPlayedBut streams ws (λ k. k < length streams)
-none_played streams ws each within = record {
+    → IsPlayedBut front streams ws (λ k. k < length streams)
+none_played front streams ws each within = record {
   each = each;
   within = within;
   won = λ k some lt. inr lt;
 }
 
 -- after the last one
-pub all_played : {A : Type 0} (streams : List (RowStream A)) (ws : List ℕ) (Open : ℕ → Type 0)
-    → IsPlayedBut streams ws Open → ((k : ℕ) → 0 < k → Open k → ⊥) → IsPlayed streams ws
-all_played streams ws Open h none = record {
+pub all_played : {X : Type 0} (front : X → Option Row) (streams : List X) (ws : List ℕ) (Open : ℕ → Type 0)
+    → IsPlayedBut front streams ws Open → ((k : ℕ) → 0 < k → Open k → ⊥) → IsPlayed front streams ws
+all_played front streams ws Open h none = record {
   each = h.each;
   within = h.within;
   won = λ k some lt. elim (h.won k some lt) [

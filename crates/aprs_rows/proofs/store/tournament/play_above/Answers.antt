@@ -1,7 +1,7 @@
 use Rattle.std.proofs.Common.{◌/◌, arith}
-use Rattle.aprs_fold.specs.Matches.{IsAbove}
-use Rattle.aprs_fold.proofs.Matches.{above_after, above_last, above_next, all_played, played_one}
-use Rattle.aprs_fold.proofs.tournament.play_above.Goals as goal
+use Rattle.aprs_rows.specs.Matches.{IsAbove}
+use Rattle.aprs_rows.proofs.Matches.{above_after, above_last, above_next, all_played, played_one}
+use Rattle.aprs_rows.proofs.store.tournament.play_above.Goals as goal
 
 pub loop-number-preserved : goal.loop-number-preserved
 loop-number-preserved g c =
@@ -10,7 +10,7 @@ loop-number-preserved g c =
     let within = c.loop-number.invariant.within in
     record {
       within = omega (arith, within);
-      played = played_one c.args.streams.now c.loop-number.winners c.play.new.winners (number / 2)
+      played = played_one g.T.HasFront.front c.args.streams.now c.loop-number.winners c.play.new.winners (number / 2)
           (IsAbove number) (IsAbove (number / 2)) c.loop-number.invariant.played
           (omega (arith, more)) (omega (arith, within)) c.play.ensures.each c.play.ensures.won
           c.play.ensures.others (λ k h. above_next number k h)
@@ -18,6 +18,6 @@ loop-number-preserved g c =
     }
 
 pub returns : goal.returns
-returns g c = all_played c.args.streams.now c.loop-number.winners (IsAbove c.loop-number.number)
+returns g c = all_played g.T.HasFront.front c.args.streams.now c.loop-number.winners (IsAbove c.loop-number.number)
     c.loop-number.invariant.played
     (λ k some h. above_last c.loop-number.number k c.loop-number-test.false some h)
