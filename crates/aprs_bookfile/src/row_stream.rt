@@ -34,7 +34,7 @@ use crate::lent_row::LentRow;
 use crate::piece::Piece;
 use crate::row_reader::{Keeping, RowReader};
 use aprs_io::Counted;
-use aprs_rows::{Memory, PackedRows, RowView};
+use aprs_rows::{HasFront, Memory, PackedRows, RowView};
 use aprs_transmissions::Gap;
 use std::alloc::Allocator;
 use std::io::Read;
@@ -282,5 +282,25 @@ impl<A: Allocator + Copy> RowStream<A> {
             Ok(_) => Err(self.reader.fault(BookCause::After)),
             Err(ending) => self.reader.finish(ending),
         }
+    }
+}
+
+impl<A: Allocator + Copy> HasFront for RowStream<A> {
+    ghost front = { λ stream. last_or None (Spec.front_of stream) };
+
+    #[inline(always)]
+    fn has_row(&self) -> bool {
+        self.row().is_some()
+    }
+
+    #[inline(always)]
+    fn is_before(&self, other: &Self) -> bool {
+        let Some(row) = self.row() else {
+            return false;
+        };
+        let Some(next) = other.row() else {
+            return true;
+        };
+        row.order(&next).is_lt()
     }
 }

@@ -6,7 +6,6 @@ pub mod NewRows
 pub mod Steps
 pub mod Beside
 pub mod Fronts
-pub mod Matches
 pub mod Reading
 pub mod Begun
 pub mod Streamed

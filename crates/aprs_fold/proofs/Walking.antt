@@ -14,7 +14,8 @@ use Rattle.aprs_fold.specs.Folding.{rows_put, IsFolding, NoneIsBefore, TakesNext
 use Rattle.aprs_fold.proofs.Steps.{begins, ends_as_book, takes_on}
 use Rattle.aprs_fold.specs.Begun.{IsBegun}
 use Rattle.aprs_fold.specs.Fold.{IsWhole, LeavesRows, PutsPart, PutsRows}
-use Rattle.aprs_fold.specs.Fronts.{row_at, IsFirst, NotAfter}
+use Rattle.aprs_rows.specs.Fronts.{NotAfter}
+use Rattle.aprs_fold.specs.Fronts.{row_at, IsFirst}
 use Rattle.aprs_fold.specs.Range.{book_of_sources, rows_of_sources}
 use Rattle.aprs_fold.specs.Inputs.{all_of, AreBooks, IsRefused}
 use Rattle.aprs_fold.specs.Streams.{fronts_of, taken_at, AreReading, ChangesAt, GoesOn, IsOfInputs}

@@ -8,7 +8,6 @@ pub mod Examples
 pub mod Fold
 pub mod Fronts
 pub mod Known
-pub mod Matches
 pub mod News
 pub mod Range
 pub mod Streams

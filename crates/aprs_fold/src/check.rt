@@ -12,8 +12,8 @@ ghost use Rattle.aprs_fold.specs.Inputs.{AreAsked, AreBooks, IsRefused};
 
 use crate::fault::FoldFault;
 use crate::opening::{advance, open_all};
-use crate::tournament::Tournament;
 use aprs_io::Counted;
+use aprs_rows::Tournament;
 use aprs_transmissions::Gap;
 use std::alloc::Allocator;
 use std::io::Read;

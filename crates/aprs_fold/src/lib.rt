@@ -13,7 +13,6 @@ mod opening;
 mod range;
 mod taking;
 mod taking_new;
-mod tournament;
 
 pub use check::check_books;
 pub use examples::books::{books_are_one_book, books_have_ranges};

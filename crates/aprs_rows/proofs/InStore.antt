@@ -100,33 +100,14 @@ closed lists others chunk rows rest m e n =
     (swapped chunk rows m (flat_map (λ rs. rs) lists))
 
 -- one more list is merged
-pub merged_more : (lists : List (List Row)) (chunk : List Row) (i : ℕ) (rows old new : List Row)
+pub rows_more : (lists : List (List Row)) (chunk : List Row) (i : ℕ) (rows : List Row)
     → rows ≡ get_or lists i rows → i < length lists
-    → SameMembers (all_rows (take i lists) chunk) old → SameMembers (rows ++ old) new
-    → SameMembers (all_rows (take (i + 1) lists) chunk) new
-merged_more lists chunk i rows old new is l m n z =
-    let before = all_rows (take i lists) chunk in
-    let all : all_rows (take (i + 1) lists) chunk ≡ before ++ rows =
+    → all_rows (take (i + 1) lists) chunk ≡ all_rows (take i lists) chunk ++ rows
+rows_more lists chunk i rows is l =
     ap (λ (ls : List (List Row)). all_rows ls chunk) (take_more lists i rows l
     ∙ ap (λ (r : List Row). take i lists ++ r ∷ []) (sym is))
     ∙ ap (λ rs. chunk ++ rs) (flat_more (take i lists) rows)
-    ∙ sym (append_assoc chunk (flat_map (λ rs. rs) (take i lists)) rows) in (
-      λ h. (n z).0 (elim (in_either z before rows (subst (λ (xs : List Row). z ∈ xs) all h)) [
-        | inl k ↦ in_right z rows old ((m z).0 k)
-        | inr k ↦ in_left z rows old k
-      ]),
-      λ h. subst (λ (xs : List Row). z ∈ xs) (sym all)
-          (elim (in_either z rows old ((n z).1 h)) [
-            | inl k ↦ in_right z before rows k
-            | inr k ↦ in_left z before rows ((m z).1 k)
-          ]),
-    )
-
--- the chunk comes first
-pub merged_first : (chunk rows none new : List Row) → rows ≡ chunk → none ≡ []
-    → SameMembers (rows ++ none) new → SameMembers (all_rows [] chunk) new
-merged_first chunk rows none new is e m =
-    subst (λ (xs : List Row). SameMembers xs new) (λ i. is i ++ e i) m
+    ∙ sym (append_assoc chunk (flat_map (λ rs. rs) (take i lists)) rows)
 
 -- ---- the same book
 

@@ -8,6 +8,8 @@ pub mod KeyPrefixes
 pub mod InStore
 pub mod JoinedNames
 pub mod Judgements
+pub mod Matches
+pub mod Merger
 pub mod NameRooms
 pub mod NameTexts
 pub mod Opens

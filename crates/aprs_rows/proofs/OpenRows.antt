@@ -2,7 +2,7 @@
 use Rattle.aprs_rows.proofs.Common.{◌≡◌, ◌≤◌, ◌∙◌, ℕ, Bool, true, List, [], ◌∷◌, ◌++◌, Option, None, Some, length, arith, ap, inl, min, sym, refl, subst, last_or, is_eq, Ordering, Less, Equal, Greater, Row, IsSoundRow, combine, compare_near, greater, union, bytes_cmp, ◌∈◌, IsGap, millis_of, some_millis}
 use Rattle.std.specs.Prelude.{IfSome}
 use Rattle.aprs_transmissions.proofs.Together.{near_is_sound}
-use Rattle.aprs_rows.specs.Fronts.{IsByTest, with_names}
+use Rattle.aprs_rows.specs.Merger.{IsByTest, with_names}
 use Rattle.aprs_rows.specs.Names.{names_in}
 use Rattle.aprs_rows.proofs.Unions.{united_alone, united_more}
 

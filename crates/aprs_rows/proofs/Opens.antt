@@ -12,7 +12,7 @@ use Rattle.aprs_transmissions.proofs.Rows.{IsBefore, place_means}
 use Rattle.aprs_transmissions.proofs.Streams.{combined_up_to}
 use Rattle.aprs_transmissions.proofs.Together.{first_stands, firsts_join, near_is_sound, order_is_free}
 use Rattle.aprs_rows.specs.BookRows.{IsOpen}
-use Rattle.aprs_rows.specs.Fronts.{IsByTest, IsTakenOut, NoneIsNear, with_names}
+use Rattle.aprs_rows.specs.Merger.{IsByTest, IsTakenOut, NoneIsNear, with_names}
 use Rattle.aprs_rows.proofs.Unions.{united_alone, united_more}
 
 near_of : (o : Ordering) → is_eq o ≡ true → o ≡ Equal

@@ -8,7 +8,7 @@ use Rattle.aprs_transmissions.specs.Order.{IsUpTo}
 use Rattle.aprs_transmissions.specs.Row.{Row, row_cmp}
 use Rattle.aprs_transmissions.specs.Sound.{AreSoundRows}
 use Rattle.aprs_transmissions.specs.Together.{book_together}
-use Rattle.aprs_rows.specs.Fronts.{with_names}
+use Rattle.aprs_rows.specs.Merger.{with_names}
 use Rattle.aprs_rows.specs.NameRoom.{GatheredNames}
 use Rattle.aprs_rows.specs.Packed.{room_of}
 

@@ -7,6 +7,8 @@ pub mod KeyPrefix
 pub mod KeyPrefixSteps
 pub mod Judging
 pub mod KeptNames
+pub mod Matches
+pub mod Merger
 pub mod NameRoom
 pub mod Names
 pub mod OpenRow

@@ -1,7 +1,10 @@
-//! Worked examples of why a row can't follow others, and near misses.
+//! Worked examples of why a row can't follow others, and of which of several comes first, and near
+//! misses.
 ghost use Rattle.std.specs.Prelude.{◌≡◌, [], ◌∷◌, Some, None};
 ghost use Rattle.aprs_transmissions.specs.declared.row_cause.RowCause.TheVariants.{Order, Span, Near, Receivers, NotGreatest};
 ghost use Rattle.aprs_transmissions.specs.Examples.{half_minute, rx1, rx2, by_rx1, example_row, row_at, row_to, short_row};
+ghost use Rattle.aprs_rows.specs.Fronts.{NotAfter};
+ghost use Rattle.aprs_rows.specs.Matches.{halved, winner_of};
 ghost use Rattle.aprs_rows.specs.Refusal.{refusal};
 ghost use Rattle.aprs_rows.specs.Examples.{eighth_row, unlisted_row, lesser_row};
 
@@ -42,4 +45,25 @@ pub fn first_causes_hide_others()
 
     ensures receivers_not_greatest { refusal half_minute [] (example_row 1 (rx2 ∷ []) (by_rx1 1))
         ≡ Some Receivers }
+{}
+
+/// Each match has half the number of the two before it. Numbers after those of the matches are
+/// those of streams.
+pub fn matches_have_half_the_number()
+    ensures itself { halved 0 5 ≡ 5 }
+    ensures next { halved 1 5 ≡ 2 }
+    ensures even { halved 1 4 ≡ 2 }
+    ensures second { halved 2 5 ≡ 1 }
+    ensures last { halved 3 5 ≡ 0 }
+    ensures won { winner_of (7 ∷ 8 ∷ []) 1 ≡ 8 }
+    ensures stream { winner_of (7 ∷ 8 ∷ []) 3 ≡ 1 }
+{}
+
+/// A row that isn't there comes after all.
+pub fn ended_lists_come_last()
+    ensures ended { NotAfter (Some (row_at 0)) None }
+    ensures both { NotAfter None None }
+    ensures earlier { NotAfter (Some (row_at 0)) (Some (row_at 1)) }
+    ensures misses_ended { NotAfter None (Some (row_at 0)) → ⊥ }
+    ensures misses_later { NotAfter (Some (row_at 1)) (Some (row_at 0)) → ⊥ }
 {}

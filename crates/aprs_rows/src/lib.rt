@@ -20,4 +20,5 @@ pub use store::book_rows::BookRows;
 pub use store::book_store::BookStore;
 pub use store::open_row::{MOST_NAMES, OpenRow};
 pub use store::packed::PackedRows;
+pub use store::tournament::{HasFront, Tournament};
 pub use store::walk_room::WalkRoom;

@@ -7,4 +7,5 @@ pub(crate) mod mark;
 pub(crate) mod merger;
 pub(crate) mod open_row;
 pub(crate) mod packed;
+pub(crate) mod tournament;
 pub(crate) mod walk_room;

@@ -1,13 +1,11 @@
 //! Worked examples of the steps of a fold, and near misses. The functions do nothing.
-ghost use Rattle.std.specs.Prelude.{◌≡◌, [], ◌∷◌, ◌++◌, None, Some, codes, false, true};
+ghost use Rattle.std.specs.Prelude.{◌≡◌, [], ◌∷◌, ◌++◌, Some, codes, false, true};
 ghost use Rattle.aprs_transmissions.specs.Examples.{early_row, late_row};
 ghost use Rattle.aprs_fold.specs.Examples.{uncalled};
 ghost use Rattle.aprs_fold.specs.Folding.{rows_put};
-ghost use Rattle.aprs_fold.specs.Fronts.{NotAfter};
 ghost use Rattle.aprs_fold.specs.Inputs.{IsOneRefused};
 ghost use Rattle.aprs_fold.specs.Known.{is_first, known_after};
 ghost use Rattle.aprs_fold.specs.Lines.{IsLineAt, ReadsLine};
-ghost use Rattle.aprs_fold.specs.Matches.{halved, winner_of};
 ghost use Rattle.aprs_fold.specs.Streams.{IsOfInputs, ahead_of_all};
 ghost use Rattle.aprs_fold.specs.Taking.{ClosesFor, IsThere};
 ghost use Rattle.aprs_fold.specs.declared.fault.FoldFault.TheVariants.{Memory, OtherGap, Write};
@@ -32,23 +30,8 @@ pub fn first_inputs_are_known()
     ensures of_another { known_after false (early_row ∷ []) late_row ≡ early_row ∷ [] }
 {}
 
-/// Each match has half the number of the two before it. Numbers after those of the matches are
-/// those of streams.
-pub fn matches_have_half_the_number()
-    ensures itself { halved 0 5 ≡ 5 }
-    ensures next { halved 1 5 ≡ 2 }
-    ensures even { halved 1 4 ≡ 2 }
-    ensures second { halved 2 5 ≡ 1 }
-    ensures last { halved 3 5 ≡ 0 }
-    ensures won { winner_of (7 ∷ 8 ∷ []) 1 ≡ 8 }
-    ensures stream { winner_of (7 ∷ 8 ∷ []) 3 ≡ 1 }
-{}
-
-/// A row that isn't there comes after all, and a refusal of the output is no fault of an input.
+/// A refusal of the output is no fault of an input.
 pub fn streams_end_and_fail()
-    ensures ended { NotAfter (Some early_row) None }
-    ensures both { NotAfter None None }
-    ensures misses_ended { NotAfter None (Some early_row) → ⊥ }
     ensures memory { IsOfInputs Memory }
     ensures gap { IsOfInputs (OtherGap 1) }
     ensures misses_output { IsOfInputs Write → ⊥ }

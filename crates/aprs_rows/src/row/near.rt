@@ -1,7 +1,7 @@
 //! Nearness in time.
 ghost use Rattle.std.specs.Prelude.{◌≡◌, ◌+◌, nat_le};
 ghost use Rattle.aprs_transmissions.specs.Gap.{millis_of};
-ghost use Rattle.aprs_rows.specs.Fronts.{IsByTest};
+ghost use Rattle.aprs_rows.specs.Merger.{IsByTest};
 
 use crate::row::row_view::RowView;
 use aprs_log::Moment;

@@ -12,7 +12,7 @@ ghost use Rattle.aprs_rows.specs.Packed.{room_of};
 use crate::Memory;
 use crate::growth::reserve;
 use crate::store::book_rows::BookRows;
-use crate::store::merger::Merger;
+use crate::store::merger::{Merger, put_list};
 use crate::store::packed::PackedRows;
 use crate::store::walk_room::WalkRoom;
 use aprs_log::Reception;
@@ -164,12 +164,13 @@ fn merged<'a, A: Allocator + Copy>(
     ensures room { IfOk result (λ m. m.1 ≡ min (room_of m.0) (2 ^ 64 - 1)) }
     ensures some { OnErr result (all_rows sorted.now chunk.now ≢ []) }
 {
-    let mut merger = Merger::new(alloc);
-    merger.add(chunk.rows())?;
+    let mut fronts = Vec::new(alloc);
+    put_list(&mut fronts, chunk.rows())?;
     let mut room = chunk.room();
     for packed in sorted {
-        merger.add(packed.rows())?;
+        put_list(&mut fronts, packed.rows())?;
         room = room.saturating_add(packed.room());
     }
+    let merger = Merger::new(alloc, fronts)?;
     Ok((merger, room))
 }

@@ -3,7 +3,8 @@ use Rattle.aprs_bookfile.specs.declared.row_stream.RowStream.{RowStream}
 use Rattle.aprs_fold.specs.Streams.{AreReading}
 use Rattle.aprs_fold.specs.declared.fault.FoldFault.TheVariants.{Memory, Write}
 use Rattle.aprs_fold.proofs.InErr.{in_err}
-use Rattle.aprs_fold.proofs.Matches.{opened_again}
+use Rattle.aprs_rows.proofs.Matches.{opened_again}
+use Rattle.aprs_fold.specs.Fronts.{in_front}
 use Rattle.aprs_fold.proofs.Points.{asked, is_ready, is_within, unwritten}
 use Rattle.aprs_fold.proofs.Reading.{AreReading-ended}
 use Rattle.aprs_fold.proofs.Streamed.{AreOpened-all}
@@ -29,7 +30,7 @@ loop-index-init g c = record {
         c.args.gap c.args.inputs.now c.open_all.new.inputs c.in_ok-opened.opened.items
         c.in_ok-opened.ensures.all c.in_ok-opened.ensures.reads);
   };
-  played = c.in_ok-tournament.ensures;
+  played = c.in_ok-tournament.ensures.played;
 }
 
 pub advance-requires-clause-ready : goal.advance-requires-clause-ready
@@ -66,7 +67,7 @@ play_again-requires-clause-there g c =
 pub play_again-requires-clause-played : goal.play_again-requires-clause-played
 play_again-requires-clause-played g c =
     let stays = c.in_ok-advance.ensures.stays in
-    opened_again c.loop-index.streams c.loop-index.tournament.winners.items
+    opened_again in_front c.loop-index.streams c.loop-index.tournament
     c.loop-index.invariant.played c.advance.new.streams c.in-Some.index stays.0 stays.1
 
 pub loop-index-preserved : goal.loop-index-preserved

@@ -1,4 +1,5 @@
-use Rattle.aprs_fold.specs.Matches.{IsPlayed}
+use Rattle.aprs_rows.specs.Matches.{IsPlayed}
+use Rattle.aprs_fold.specs.Fronts.{in_front}
 use Rattle.aprs_fold.specs.Streams.{ahead_of_all}
 use Rattle.aprs_fold.proofs.Points.{Point}
 use Rattle.aprs_fold.proofs.check.check_books.Given as goal
@@ -6,7 +7,7 @@ use Rattle.aprs_fold.proofs.check.check_books.Given as goal
 abbrev pub invariant-loop-index : goal.invariant-loop-index
 invariant-loop-index g l = record {
   point : Point g.R.Read.remaining l.fn.limit l.fn.gap l.fn.inputs l.inputs l.streams;
-  played : IsPlayed l.streams l.tournament.winners.items;
+  played : IsPlayed in_front l.streams l.tournament;
 }
 
 abbrev pub decreases-loop-index : goal.decreases-loop-index

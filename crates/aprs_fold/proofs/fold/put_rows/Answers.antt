@@ -4,7 +4,8 @@ use Rattle.aprs_fold.specs.Streams.{AreReading}
 use Rattle.aprs_fold.specs.declared.fault.FoldFault.TheVariants.{Memory}
 use Rattle.aprs_fold.proofs.Begun.{ChangesAt-none}
 use Rattle.aprs_fold.proofs.InErr.{in_err}
-use Rattle.aprs_fold.proofs.Matches.{opened_again}
+use Rattle.aprs_rows.proofs.Matches.{opened_again}
+use Rattle.aprs_fold.specs.Fronts.{in_front}
 use Rattle.aprs_fold.proofs.Points.{asked, by_memory, by_write, is_ready, is_within}
 use Rattle.aprs_fold.proofs.Streamed.{memory_own, AreOpened-all}
 use Rattle.aprs_fold.proofs.Walking.{leaves_here, leaves_none, leaves_taken, leaves_taking, leaves_write, point, taking_refuses, walk_begins, walk_ends, walks_on, Walking}
@@ -29,7 +30,7 @@ loop-index-init g c = record {
       (AreOpened-all g.R.Read.remaining c.args.limit c.args.gap c.args.inputs.now
       c.open_all.new.inputs c.in_ok-opened.opened.items c.in_ok-opened.ensures.all
       c.in_ok-opened.ensures.reads)));
-  played = c.in_ok-tournament.ensures;
+  played = c.in_ok-tournament.ensures.played;
 }
 
 pub returns-in_err-wrote-clause-refuses : goal.returns-in_err-wrote-clause-refuses
@@ -105,7 +106,7 @@ play_again-requires-clause-there g c =
 pub play_again-requires-clause-played : goal.play_again-requires-clause-played
 play_again-requires-clause-played g c =
     let stays = c.in_ok-advance.ensures.stays in
-    opened_again c.loop-index.streams c.loop-index.tournament.winners.items
+    opened_again in_front c.loop-index.streams c.loop-index.tournament
     c.loop-index.invariant.played c.advance.new.streams c.in-Some.index stays.0 stays.1
 
 pub loop-index-preserved : goal.loop-index-preserved

@@ -4,7 +4,8 @@ use Rattle.aprs_fold.specs.Known.{IsNewing}
 use Rattle.aprs_fold.specs.Streams.{AreReading}
 use Rattle.aprs_fold.specs.declared.fault.FoldFault.TheVariants.{Memory}
 use Rattle.aprs_fold.proofs.InErr.{in_err}
-use Rattle.aprs_fold.proofs.Matches.{opened_again}
+use Rattle.aprs_rows.proofs.Matches.{opened_again}
+use Rattle.aprs_fold.specs.Fronts.{in_front}
 use Rattle.aprs_fold.proofs.Newing.{fails_left, fails_refused, leaves_begun, leaves_put, news_begins, news_end, news_on, point}
 use Rattle.aprs_fold.proofs.Points.{asked, by_memory, by_write, is_ready, is_within}
 use Rattle.aprs_fold.proofs.Streamed.{memory_own, AreOpened-all}
@@ -37,7 +38,7 @@ loop-index-init g c =
           g.W.Write.contents c.args.limit c.args.gap c.args.range.now c.args.inputs.now
           c.open_all.new.inputs c.as_mut_slice-streams.result.now c.args.out.now c.args.out.now
           last [] 0) (sym c.new-last.ensures) (news_begins _ _ reading));
-      played = c.in_ok-tournament.ensures;
+      played = c.in_ok-tournament.ensures.played;
     }
 
 pub returns-in_err-wrote-clause-left : goal.returns-in_err-wrote-clause-left
@@ -109,7 +110,7 @@ play_again-requires-clause-there g c =
 pub play_again-requires-clause-played : goal.play_again-requires-clause-played
 play_again-requires-clause-played g c =
     let stays = c.in_ok-advance.ensures.stays in
-    opened_again c.loop-index.streams c.loop-index.tournament.winners.items
+    opened_again in_front c.loop-index.streams c.loop-index.tournament
     c.loop-index.invariant.played c.advance.new.streams c.in-Some.index stays.0 stays.1
 
 pub loop-index-preserved : goal.loop-index-preserved

@@ -1,6 +1,4 @@
-use Rattle.aprs_fold.proofs.Common.{◌≡◌, [], ◌∷◌, refl}
-use Rattle.std.specs.Prelude.{Bool, List, true, false}
-use Rattle.aprs_transmissions.specs.Row.{Row}
+use Rattle.aprs_fold.proofs.Common.{refl}
 use Rattle.aprs_transmissions.specs.Examples.{early_row}
 use Rattle.aprs_fold.proofs.examples.steps.closed_rows_are_put.Goals as goal
 

@@ -3,9 +3,6 @@ use Rattle.aprs_fold.proofs.examples.steps.streams_end_and_fail.Goals as goal
 
 pub returns : goal.returns
 returns c = record {
-  ended = tt;
-  both = tt;
-  misses_ended = λ h. h;
   memory = tt;
   gap = tt;
   misses_output = λ h. h;

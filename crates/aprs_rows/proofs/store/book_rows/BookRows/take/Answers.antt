@@ -1,7 +1,7 @@
 use Rattle.aprs_rows.proofs.Common.{◌∙◌, ◌++◌, ◌∷◌, List, Row, BookValue, arith, ap, inr, sym, subst, some_millis, millis_of, ◌∈◌}
 use Rattle.std.proofs.lemmas.List.Sums.{sum_by-cons}
 use Rattle.aprs_transmissions.specs.Together.{book_together}
-use Rattle.aprs_rows.specs.Fronts.{with_names}
+use Rattle.aprs_rows.specs.Merger.{with_names}
 use Rattle.aprs_rows.specs.Packed.{room_of, row_room}
 use Rattle.aprs_rows.proofs.Opens.{ends, fits_next, joins, not_none, stands, starts}
 use Rattle.aprs_rows.proofs.store.book_rows.BookRows.take.Goals as goal

@@ -1,44 +1,75 @@
-use Rattle.std.proofs.Common.{◌∙◌, false, true, inr, refl, sym, ap, subst, Option}
-use Rattle.std.specs.BinaryHeap.{heap_items}
+use Rattle.aprs_rows.proofs.Common.{◌≡◌, ◌∙◌, ◌<◌, true, List, None, Some, Row, length, get_or, ap, arith, inl, inr, refl, sym, subst}
 use Rattle.aprs_transmissions.specs.Gap.{millis_of}
-use Rattle.aprs_transmissions.specs.Row.{Row}
-use Rattle.aprs_rows.specs.Fronts.{Ahead, AreRuns, IsByTest, IsFirst, all_ahead, fronts}
-use Rattle.aprs_rows.proofs.Fronts.{first_out, keeps, same_front, taken}
+use Rattle.aprs_rows.specs.Fronts.{IsFirst, row_at}
+use Rattle.aprs_rows.specs.Merger.{all_ahead, first_in, IsByTest}
+use Rattle.aprs_rows.proofs.Fronts.{row_is}
+use Rattle.aprs_rows.proofs.Merger.{first_out, if_none, none_ahead, same_some, still, taken}
 use Rattle.aprs_rows.proofs.store.merger.Merger.take_near.Goals as goal
+
+pub returns-in_err-index-clause-none : goal.returns-in_err-index-clause-none
+returns-in_err-index-clause-none g c =
+    if_none _ c.from_residual.result (
+      refl,
+      inl (sym c.self.view_is ∙ ap all_ahead (sym c.as_slice.ensures.value)
+          ∙ none_ahead c.as_slice.result.now c.in_err-index.ensures.none),
+    )
+
+pub returns-in_err-row-clause-none : goal.returns-in_err-row-clause-none
+returns-in_err-row-clause-none g c =
+    let f = c.in_ok-index.ensures.some in
+    let at = row_is first_in c.as_slice-2.result.now c.in_ok-index.index
+    c.index-as_slice-index.result
+    (subst (λ (ls : List (List Row)). c.in_ok-index.index < length ls)
+    (c.as_slice.ensures.value ∙ sym c.as_slice-2.ensures.value) f.within)
+    c.index-as_slice-index.is in
+    let is = subst (λ (ls : List (List Row)). row_at first_in ls c.in_ok-index.index ≡ Some f.row)
+    (c.as_slice.ensures.value ∙ sym c.as_slice-2.ensures.value) f.is in
+    absurd (let e : None ≡ Some f.row = sym c.in_err-row.ensures.none ∙ sym at ∙ is in cc)
 
 pub returns-then-not-are_near-clause-none : goal.returns-then-not-are_near-clause-none
 returns-then-not-are_near-clause-none g c =
-    let hs = heap_items c.self.inside.others in
-    let is = c.in-Some.is in
-    let t = first_out c.in-Some.front hs c.args.self.now
-    (subst (λ (o : Option Ahead). AreRuns (fronts o hs)) is c.self.invariant.1)
-    (subst (λ (o : Option Ahead). IsFirst o hs) is c.self.invariant.2)
-    (ap (λ (o : Option Ahead). all_ahead (fronts o hs)) (sym is) ∙ c.self.view_is) in (
+    let t = first_out c.self.inside.fronts.items c.in_ok-index.index c.index-as_slice-index.result
+    c.in_ok-row.row.now c.args.self.now c.self.invariant.0
+    (subst (λ (ls : List (List Row)). IsFirst first_in ls c.in_ok-index.index)
+    c.as_slice.ensures.value c.in_ok-index.ensures.some)
+    (subst (λ (ls : List (List Row)). c.index-as_slice-index.result
+    ≡ get_or ls c.in_ok-index.index c.index-as_slice-index.result) c.as_slice-2.ensures.value
+    c.index-as_slice-index.is)
+    c.in_ok-row.ensures.some c.self.view_is in (
       refl,
       inr (
-        c.in-Some.front.first,
+        c.in_ok-row.row.now,
         t.0,
         t.1,
-        subst (λ (x : Row). IsByTest false (millis_of c.args.gap) c.args.first c.args.latest.now x)
-            (ap (λ (a : Ahead). a.first) c.front.view_is)
-            (λ names. sym c.if-not-are_near.true ∙ c.are_near.ensures names),
+        λ names. sym c.if-not-are_near.true ∙ c.are_near.ensures names,
       ),
     )
 
 pub invariant_of-self : goal.invariant_of-self
 invariant_of-self g c =
-    keeps c.self.inside.front (heap_items c.self.inside.others) c.take_first.new.front
-    (heap_items c.take_first.new.others) c.take_first.result c.take_first.ensures.some
-    c.take_first.ensures.none c.take_first.ensures.first c.self.invariant.0 c.self.invariant.1
-    c.self.invariant.2
+    still c.self.inside.fronts.items c.as_slice.result.now c.as_mut_slice.result.now
+    c.take_at.new.fronts c.in_ok-index.index c.self.inside.fronts.len c.take_at.new.tournament
+    c.take_at.result c.as_slice.ensures.value c.as_mut_slice.ensures.value
+    (let len = c.as_mut_slice.ensures.len in omega (arith, len)) c.self.invariant.0
+    c.in_ok-index.ensures.some c.take_at.ensures.none c.take_at.ensures.some
+    c.take_at.ensures.played
 
 pub returns-clause-some : goal.returns-clause-some
 returns-clause-some g c =
-    taken c.self.inside.front (heap_items c.self.inside.others) c.take_first.new.front
-    (heap_items c.take_first.new.others)
-    (λ x. IsByTest true (millis_of c.args.gap) c.args.first c.args.latest.now x)
-    c.take_first.result c.args.self.now c.take_first.ensures.some c.self.invariant.1
-    c.self.invariant.2 c.self.view_is
-    (λ a e. subst (λ (x : Row). IsByTest true (millis_of c.args.gap) c.args.first c.args.latest.now x)
-    (ap (λ (b : Ahead). b.first) (c.front.view_is ∙ same_front c.in-Some.front a (sym c.in-Some.is ∙ e)))
+    let lists = c.self.inside.fronts.items in
+    let Q : Row → Type 0 = λ x. IsByTest true (millis_of c.args.gap) c.args.first c.args.latest.now x in
+    taken c.self.inside.fronts.items c.as_slice.result.now c.as_mut_slice.result.now
+    c.take_at.new.fronts c.in_ok-index.index c.self.inside.fronts.len c.take_at.new.tournament
+    c.take_at.result c.as_slice.ensures.value c.as_mut_slice.ensures.value
+    (let len = c.as_mut_slice.ensures.len in omega (arith, len)) c.self.invariant.0
+    c.in_ok-index.ensures.some c.take_at.ensures.none c.take_at.ensures.some
+    c.take_at.ensures.played c.args.self.now c.self.view_is Q
+    (λ y at. subst Q
+    (same_some c.in_ok-row.row.now y (sym c.in_ok-row.ensures.some
+    ∙ sym (row_is first_in lists c.in_ok-index.index c.index-as_slice-index.result
+    (subst (λ (ls : List (List Row)). c.in_ok-index.index < length ls) c.as_slice.ensures.value
+    c.in_ok-index.ensures.some.within)
+    (subst (λ (ls : List (List Row)). c.index-as_slice-index.result
+    ≡ get_or ls c.in_ok-index.index c.index-as_slice-index.result) c.as_slice-2.ensures.value
+    c.index-as_slice-index.is)) ∙ at))
     (λ names. sym c.if-not-are_near.false ∙ c.are_near.ensures names))
