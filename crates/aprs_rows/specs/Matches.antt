@@ -11,7 +11,8 @@ winner_of (w ∷ winners) zero = w
 winner_of (w ∷ winners) (suc number) = winner_of winners number
 
 -- A match was won by the winner of one of the two before it, whose row comes after neither's.
-pub record IsWon {X : Type 0} (front : X → Option Row) (streams : List X) (winners : List ℕ) (number : ℕ) : Type 0 where
+pub record IsWon {X : Type 0} (front : X → Option Row) (streams : List X) (winners : List ℕ)
+    (number : ℕ) : Type 0 where
   pub either : (winner_of winners number ≡ winner_of winners (2 * number))
       ⊎ (winner_of winners number ≡ winner_of winners (2 * number + 1))
   pub one : NotAfter (row_at front streams (winner_of winners number))

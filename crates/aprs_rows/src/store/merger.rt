@@ -2,7 +2,7 @@
 //!
 //! Words of the contracts here:
 //! - `IsRun`: rows in order, each sound by itself, with names of receivers and a UI frame
-//!   (`HasNamesAndFrame`). `AreRuns`: the rows of each list are one. `HaveRows`: each list has rows.
+//!   (`HasNamesAndFrame`). `AreRuns`: those of each list are one. `HaveRows`: each list has rows.
 //! - `all_ahead`: the rows of all lists, one list after another.
 //! - `IsTakenOut`: this row was taken out and the others remain, none of which it comes after.
 //! - `IsByTest`: whether a row is near to that of this first moment and the greatest reception of

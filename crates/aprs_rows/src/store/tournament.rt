@@ -153,7 +153,8 @@ fn earlier<T: HasFront>(streams: &[T], one: usize, other: usize) -> usize
     requires other { other < length streams.now }
     ensures either { (result ≡ one) ⊎ (result ≡ other) }
     ensures one { NotAfter (row_at T.front streams.now result) (row_at T.front streams.now one) }
-    ensures other { NotAfter (row_at T.front streams.now result) (row_at T.front streams.now other) }
+    ensures other { NotAfter (row_at T.front streams.now result)
+        (row_at T.front streams.now other) }
 {
     if streams[other].is_before(&streams[one]) {
         other
