@@ -13,8 +13,8 @@ in_front stream = last_or None (front_of stream)
 
 -- The row that the stream of this number has in front, if there is such a stream and it has one.
 abbrev pub row_at : {A : Type 0} → List (RowStream A) → ℕ → Option Row
-row_at streams = Rows.row_at in_front streams
+row_at streams = Rows.front_at in_front streams
 
 -- The stream of this number has a row in front, and no other's comes before it.
 abbrev pub IsFirst : {A : Type 0} → List (RowStream A) → ℕ → Type 0
-IsFirst streams = Rows.IsFirst in_front streams
+IsFirst streams = Rows.ComesFirst in_front streams

@@ -4,7 +4,7 @@ use Rattle.std.proofs.lemmas.Bool.{cases_lt}
 use Rattle.std.proofs.lemmas.Cmp.{upto}
 use Rattle.std.specs.Prelude.{is_some}
 use Rattle.aprs_transmissions.proofs.Books.{row_total}
-use Rattle.aprs_rows.specs.Fronts.{row_at, IsFirst, NotAfter}
+use Rattle.aprs_rows.specs.Fronts.{front_at, ComesFirst, NotAfter}
 
 pub NotAfter-itself : (o : Option Row) → NotAfter o o
 NotAfter-itself None = tt
@@ -54,47 +54,47 @@ no_row (Some x) e = absurd (let f : true ≡ false = e in cc)
 
 module _ {X : Type 0} (front : X → Option Row) where
   -- the row in front of a stream that is there
-  pub row_at-get : (streams : List X) (k : ℕ) (d : X) → k < length streams
-      → row_at front streams k ≡ front (get_or streams k d)
-  row_at-get [] k d lt = absurd (omega (arith, lt))
-  row_at-get (s ∷ streams) zero d lt = refl
-  row_at-get (s ∷ streams) (suc k) d lt = row_at-get streams k d (omega (arith, lt))
+  pub front_at-get : (streams : List X) (k : ℕ) (d : X) → k < length streams
+      → front_at front streams k ≡ front (get_or streams k d)
+  front_at-get [] k d lt = absurd (omega (arith, lt))
+  front_at-get (s ∷ streams) zero d lt = refl
+  front_at-get (s ∷ streams) (suc k) d lt = front_at-get streams k d (omega (arith, lt))
 
   -- there is none past the last
-  row_at-past : (streams : List X) (k : ℕ) → length streams < k + 1 → row_at front streams k ≡ None
-  row_at-past [] k le = refl
-  row_at-past (s ∷ streams) zero le = absurd (omega (arith, le))
-  row_at-past (s ∷ streams) (suc k) le = row_at-past streams k (omega (arith, le))
+  front_at-past : (streams : List X) (k : ℕ) → length streams < k + 1 → front_at front streams k ≡ None
+  front_at-past [] k le = refl
+  front_at-past (s ∷ streams) zero le = absurd (omega (arith, le))
+  front_at-past (s ∷ streams) (suc k) le = front_at-past streams k (omega (arith, le))
 
   pub row_is : (streams : List X) (k : ℕ) (s : X) → k < length streams → s ≡ get_or streams k s
-      → row_at front streams k ≡ front s
-  row_is streams k s lt is = row_at-get streams k s lt ∙ ap front (sym is)
+      → front_at front streams k ≡ front s
+  row_is streams k s lt is = front_at-get streams k s lt ∙ ap front (sym is)
 
   -- of two that are there, the one comes not after the other
   pub not_after_of : (streams : List X) (i k : ℕ) (s t : X) → i < length streams
       → s ≡ get_or streams i s → k < length streams → t ≡ get_or streams k t
-      → NotAfter (front s) (front t) → NotAfter (row_at front streams i) (row_at front streams k)
+      → NotAfter (front s) (front t) → NotAfter (front_at front streams i) (front_at front streams k)
   not_after_of streams i k s t less is lt at h =
-      subst (λ (o : Option Row). NotAfter o (row_at front streams k))
+      subst (λ (o : Option Row). NotAfter o (front_at front streams k))
       (sym (row_is streams i s less is))
       (subst (λ (o : Option Row). NotAfter (front s) o) (sym (row_is streams k t lt at)) h)
 
   -- less than all are looked at, or all
   pub least_all : (streams : List X) (first : ℕ)
       → ((k : ℕ) → k < length streams
-      → NotAfter (row_at front streams first) (row_at front streams k))
-      → (k : ℕ) → NotAfter (row_at front streams first) (row_at front streams k)
+      → NotAfter (front_at front streams first) (front_at front streams k))
+      → (k : ℕ) → NotAfter (front_at front streams first) (front_at front streams k)
   least_all streams first least k = elim (cases_lt k (length streams)) [
     | inl lt ↦ least k lt
-    | inr past ↦ NotAfter-none (row_at front streams first) (row_at front streams k)
-        (row_at-past streams k (omega (arith, past)))
+    | inr past ↦ NotAfter-none (front_at front streams first) (front_at front streams k)
+        (front_at-past streams k (omega (arith, past)))
   ]
 
   module _ (streams : List X) (first : ℕ) (s : X) (lt : first < length streams)
       (is : s ≡ get_or streams first s)
-      (least : (k : ℕ) → NotAfter (row_at front streams first) (row_at front streams k)) where
+      (least : (k : ℕ) → NotAfter (front_at front streams first) (front_at front streams k)) where
     -- the one that has a row is the first
-    pub first_is : is_some (front s) ≡ true → IsFirst front streams first
+    pub first_is : is_some (front s) ≡ true → ComesFirst front streams first
     first_is e = let own = some_row (front s) e in record {
       within = lt;
       row = own.0;
@@ -103,10 +103,10 @@ module _ {X : Type 0} (front : X → Option Row) where
     }
 
     -- where it has none, none has
-    pub first_none : is_some (front s) ≡ false → (k : ℕ) → row_at front streams k ≡ None
+    pub first_none : is_some (front s) ≡ false → (k : ℕ) → front_at front streams k ≡ None
     first_none e k =
-        by_row (row_at front streams k)
-        (subst (λ (o : Option Row). NotAfter o (row_at front streams k))
+        by_row (front_at front streams k)
+        (subst (λ (o : Option Row). NotAfter o (front_at front streams k))
         (row_is streams first s lt is ∙ no_row (front s) e) (least k))
       where
         by_row : (o : Option Row) → NotAfter None o → o ≡ None

@@ -2,7 +2,7 @@
 use Rattle.aprs_rows.proofs.Common.{◌≡◌, ◌<◌, ◌≤◌, ◌+◌, ◌-◌, ◌*◌, ◌/◌, ◌==◌, ◌⊎◌, ◌∙◌, ℕ, zero, suc, true, false, List, [], ◌∷◌, length, get_or, Option, inl, inr, refl, sym, ap, subst, arith, Row}
 use Rattle.std.proofs.lemmas.Bool.{cases_lt}
 use Rattle.std.specs.Prelude.{◌≢◌, set}
-use Rattle.aprs_rows.specs.Fronts.{row_at, NotAfter}
+use Rattle.aprs_rows.specs.Fronts.{front_at, NotAfter}
 use Rattle.aprs_rows.specs.Matches.{halved, winner_of, AreWithin, IsAbove, IsPlayed, IsPlayedBut, IsWon}
 use Rattle.aprs_rows.proofs.Fronts.{NotAfter-itself, NotAfter-then}
 
@@ -92,10 +92,10 @@ some_of zero e = absurd (let f : true ≡ false = e in cc)
 some_of (suc count) e = omega arith
 
 module _ {X : Type 0} (front : X → Option Row) (streams : List X) where
-  not_after : (i j k l : ℕ) → i ≡ j → k ≡ l → NotAfter (row_at front streams i) (row_at front streams k)
-      → NotAfter (row_at front streams j) (row_at front streams l)
-  not_after i j k l e f h = subst (λ (n : ℕ). NotAfter (row_at front streams n) (row_at front streams l)) e
-      (subst (λ (n : ℕ). NotAfter (row_at front streams i) (row_at front streams n)) f h)
+  not_after : (i j k l : ℕ) → i ≡ j → k ≡ l → NotAfter (front_at front streams i) (front_at front streams k)
+      → NotAfter (front_at front streams j) (front_at front streams l)
+  not_after i j k l e f h = subst (λ (n : ℕ). NotAfter (front_at front streams n) (front_at front streams l)) e
+      (subst (λ (n : ℕ). NotAfter (front_at front streams i) (front_at front streams n)) f h)
 
   won_stays : (old new : List ℕ) (k : ℕ) → winner_of new k ≡ winner_of old k
       → winner_of new (2 * k) ≡ winner_of old (2 * k)
@@ -115,8 +115,8 @@ module _ {X : Type 0} (front : X → Option Row) (streams : List X) where
   -- the match that was played
   pub won_here : (old : List ℕ) (i x one other : ℕ) → 0 < i → i < length old
       → one ≡ winner_of old (2 * i) → other ≡ winner_of old (2 * i + 1)
-      → (x ≡ one) ⊎ (x ≡ other) → NotAfter (row_at front streams x) (row_at front streams one)
-      → NotAfter (row_at front streams x) (row_at front streams other)
+      → (x ≡ one) ⊎ (x ≡ other) → NotAfter (front_at front streams x) (front_at front streams one)
+      → NotAfter (front_at front streams x) (front_at front streams other)
       → IsWon front streams (set old i x) i
   won_here old i x one other some within left right either least more =
       let own = winner_of-same old i x within in
@@ -233,7 +233,7 @@ module _ {X : Type 0} (front : X → Option Row) (streams : List X) where
     -- one stream's row is another than before: its matches have to be played again
     pub opened_again : (others : List (X)) (s : ℕ)
         → length others ≡ length streams
-        → ((k : ℕ) → k ≢ s → row_at front others k ≡ row_at front streams k)
+        → ((k : ℕ) → k ≢ s → front_at front others k ≡ front_at front streams k)
         → IsPlayedBut front others ws (IsAbove (length others + s))
     opened_again others s len same =
         subst (λ (n : ℕ). (each : length ws ≡ n) → AreWithin ws n
@@ -253,70 +253,70 @@ module _ {X : Type 0} (front : X → Option Row) (streams : List X) where
             ]
           ]
         ]) where
-          won_on : (k : ℕ) → row_at front others (winner_of ws k) ≡ row_at front streams (winner_of ws k)
-              → row_at front others (winner_of ws (2 * k)) ≡ row_at front streams (winner_of ws (2 * k))
-              → row_at front others (winner_of ws (2 * k + 1))
-              ≡ row_at front streams (winner_of ws (2 * k + 1))
+          won_on : (k : ℕ) → front_at front others (winner_of ws k) ≡ front_at front streams (winner_of ws k)
+              → front_at front others (winner_of ws (2 * k)) ≡ front_at front streams (winner_of ws (2 * k))
+              → front_at front others (winner_of ws (2 * k + 1))
+              ≡ front_at front streams (winner_of ws (2 * k + 1))
               → IsWon front streams ws k → IsWon front others ws k
           won_on k own left right w = record {
             either = w.either;
             one = subst (λ (o : Option Row). NotAfter o
-                (row_at front others (winner_of ws (2 * k)))) (sym own)
-                (subst (λ (o : Option Row). NotAfter (row_at front streams (winner_of ws k)) o)
+                (front_at front others (winner_of ws (2 * k)))) (sym own)
+                (subst (λ (o : Option Row). NotAfter (front_at front streams (winner_of ws k)) o)
                 (sym left) w.one);
             other = subst (λ (o : Option Row). NotAfter o
-                (row_at front others (winner_of ws (2 * k + 1)))) (sym own)
-                (subst (λ (o : Option Row). NotAfter (row_at front streams (winner_of ws k)) o)
+                (front_at front others (winner_of ws (2 * k + 1)))) (sym own)
+                (subst (λ (o : Option Row). NotAfter (front_at front streams (winner_of ws k)) o)
                 (sym right) w.other);
           }
 
     -- the last match's winner comes after none
     last_least : (most k : ℕ) → k ≤ most → 0 < k → k < length streams + length streams
-        → NotAfter (row_at front streams (winner_of ws 1)) (row_at front streams (winner_of ws k))
+        → NotAfter (front_at front streams (winner_of ws 1)) (front_at front streams (winner_of ws k))
     last_least zero k le some lt = absurd (omega (arith, le, some))
     last_least (suc most) k le some lt = elim (cases_lt 1 k) [
       | inr one ↦ (let same : 1 ≡ k = omega (arith, one, some) in
-          subst (λ (j : ℕ). NotAfter (row_at front streams (winner_of ws 1))
-          (row_at front streams (winner_of ws j))) same
-          (NotAfter-itself (row_at front streams (winner_of ws 1))))
+          subst (λ (j : ℕ). NotAfter (front_at front streams (winner_of ws 1))
+          (front_at front streams (winner_of ws j))) same
+          (NotAfter-itself (front_at front streams (winner_of ws 1))))
       | inl more ↦
           let w = is_won (k / 2) (omega (arith, more)) (omega (arith, lt)) in
           let before = last_least most (k / 2) (omega (arith, le, more)) (omega (arith, more))
           (omega (arith, lt)) in
           elim (cases_lt (2 * (k / 2)) k) [
             | inl odd ↦ (let same : 2 * (k / 2) + 1 ≡ k = omega (arith, odd) in
-                subst (λ (j : ℕ). NotAfter (row_at front streams (winner_of ws 1))
-                (row_at front streams (winner_of ws j))) same
-                (NotAfter-then (row_at front streams (winner_of ws 1))
-                (row_at front streams (winner_of ws (k / 2)))
-                (row_at front streams (winner_of ws (2 * (k / 2) + 1))) before w.other))
+                subst (λ (j : ℕ). NotAfter (front_at front streams (winner_of ws 1))
+                (front_at front streams (winner_of ws j))) same
+                (NotAfter-then (front_at front streams (winner_of ws 1))
+                (front_at front streams (winner_of ws (k / 2)))
+                (front_at front streams (winner_of ws (2 * (k / 2) + 1))) before w.other))
             | inr even ↦ (let same : 2 * (k / 2) ≡ k = omega (arith, even) in
-                subst (λ (j : ℕ). NotAfter (row_at front streams (winner_of ws 1))
-                (row_at front streams (winner_of ws j))) same
-                (NotAfter-then (row_at front streams (winner_of ws 1))
-                (row_at front streams (winner_of ws (k / 2)))
-                (row_at front streams (winner_of ws (2 * (k / 2)))) before w.one))
+                subst (λ (j : ℕ). NotAfter (front_at front streams (winner_of ws 1))
+                (front_at front streams (winner_of ws j))) same
+                (NotAfter-then (front_at front streams (winner_of ws 1))
+                (front_at front streams (winner_of ws (k / 2)))
+                (front_at front streams (winner_of ws (2 * (k / 2)))) before w.one))
           ]
     ]
 
     winner_least : (k : ℕ) → k < length streams
-        → NotAfter (row_at front streams (winner_of ws 1)) (row_at front streams k)
+        → NotAfter (front_at front streams (winner_of ws 1)) (front_at front streams k)
     winner_least k lt =
         let each = h.each in
         let own = winner_of-past ws (length streams + k) (omega (arith, each)) in
         let same : winner_of ws (length streams + k) ≡ k = omega (arith, own, each) in
-        subst (λ (j : ℕ). NotAfter (row_at front streams (winner_of ws 1)) (row_at front streams j)) same
+        subst (λ (j : ℕ). NotAfter (front_at front streams (winner_of ws 1)) (front_at front streams j)) same
         (last_least (length streams + k) (length streams + k) (omega arith) (omega (arith, lt))
         (omega (arith, lt)))
 
     -- so the winner is the first
     pub winner_first : (first : ℕ) → first ≡ winner_of ws 1 → 0 < length streams
         → (first < length streams)
-        × ((k : ℕ) → k < length streams → NotAfter (row_at front streams first) (row_at front streams k))
+        × ((k : ℕ) → k < length streams → NotAfter (front_at front streams first) (front_at front streams k))
     winner_first first is some =
         let own = h.within 1 (omega (arith, some)) in (
           omega (arith, is, own),
-          λ k lt. subst (λ (j : ℕ). NotAfter (row_at front streams j) (row_at front streams k)) (sym is)
+          λ k lt. subst (λ (j : ℕ). NotAfter (front_at front streams j) (front_at front streams k)) (sym is)
               (winner_least k lt),
         )
 

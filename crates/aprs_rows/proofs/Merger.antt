@@ -6,7 +6,7 @@ use Rattle.std.proofs.lemmas.List.Sums.{sum_by-append, sum_by-cons}
 use Rattle.std.specs.Prelude.{◌≢◌, is_some, set, IfNone, IfSome}
 use Rattle.aprs_transmissions.specs.Sound.{AreSoundRows}
 use Rattle.aprs_transmissions.proofs.Books.{row_total}
-use Rattle.aprs_rows.specs.Fronts.{row_at, IsFirst, NotAfter}
+use Rattle.aprs_rows.specs.Fronts.{front_at, ComesFirst, NotAfter}
 use Rattle.aprs_rows.specs.Matches.{IsPlayed}
 use Rattle.aprs_rows.specs.Merger.{first_in, rows_ahead, all_ahead, AreRuns, HaveRows, IsRun, IsTakenOut, TakesAt}
 use Rattle.aprs_rows.specs.Packed.{row_room, room_of}
@@ -62,7 +62,7 @@ up_to_run x (z ∷ rows) y r n (inl e) = subst (λ (w : Row). IsUpTo row_cmp x w
 up_to_run x (z ∷ rows) y r n (inr h) = upto row_total x z y n (r.ordered.0 y h)
 
 up_to_all : (x : Row) (lists : List (List Row)) (y : Row) → AreRuns lists
-    → ((k : ℕ) → NotAfter (Some x) (row_at first_in lists k)) → y ∈ all_ahead lists
+    → ((k : ℕ) → NotAfter (Some x) (front_at first_in lists k)) → y ∈ all_ahead lists
     → IsUpTo row_cmp x y
 up_to_all x [] y r n h = absurd h
 up_to_all x (rows ∷ lists) y r n h = elim (in_either y rows (all_ahead lists) h) [
@@ -71,13 +71,13 @@ up_to_all x (rows ∷ lists) y r n h = elim (in_either y rows (all_ahead lists) 
 ]
 
 first_at : (lists : List (List Row)) (i : ℕ) (x : Row) (rest : List Row) → i < length lists
-    → x ∷ rest ≡ get_or lists i (x ∷ rest) → row_at first_in lists i ≡ Some x
+    → x ∷ rest ≡ get_or lists i (x ∷ rest) → front_at first_in lists i ≡ Some x
 first_at [] i x rest lt is = absurd (omega (arith, lt))
 first_at (r ∷ lists) zero x rest lt is = ap first_in (sym is)
 first_at (r ∷ lists) (suc i) x rest lt is = first_at lists i x rest (omega (arith, lt)) is
 
 pub taken_out : (lists new : List (List Row)) (i : ℕ) (x : Row) → AreRuns lists
-    → IsFirst first_in lists i → TakesAt lists i x new
+    → ComesFirst first_in lists i → TakesAt lists i x new
     → IsTakenOut (all_ahead lists) x (all_ahead new)
 taken_out lists new i x r f t =
     let own = less lists i x t.0 f.within t.1 in
@@ -87,7 +87,7 @@ taken_out lists new i x r f t =
       members = own.members;
       room = own.room;
       least = λ y h. up_to_all x lists y r
-          (λ k. subst (λ (o : Option Row). NotAfter o (row_at first_in lists k)) at (f.least k))
+          (λ k. subst (λ (o : Option Row). NotAfter o (front_at first_in lists k)) at (f.least k))
           ((own.members y).1 (inr h));
     })
 
@@ -103,7 +103,7 @@ same_some x y e = ap (λ (o : Option Row). elim o [ Some z ↦ z | None ↦ x ])
 
 -- the row that one list has in front could be taken out
 pub first_out : (lists : List (List Row)) (i : ℕ) (s : List Row) (x : Row) (rows : List Row)
-    → AreRuns lists → IsFirst first_in lists i → s ≡ get_or lists i s → first_in s ≡ Some x
+    → AreRuns lists → ComesFirst first_in lists i → s ≡ get_or lists i s → first_in s ≡ Some x
     → all_ahead lists ≡ rows → (rest : List Row) × IsTakenOut rows x rest
 first_out lists i [] x rows r f is e at = absurd (let g : None ≡ Some x = e in cc)
 first_out lists i (z ∷ rest) x rows r f is e at = (
@@ -143,7 +143,7 @@ runs_after lists new i x r lt t = subst AreRuns (sym t.2) (runs_on lists i x t.0
 
 -- only the list that a row was taken out of has another in front
 pub others_stay : (lists : List (List Row)) (i k : ℕ) (rest : List Row) → k ≢ i
-    → row_at first_in (set lists i rest) k ≡ row_at first_in lists k
+    → front_at first_in (set lists i rest) k ≡ front_at first_in lists k
 others_stay [] i k rest unlike = refl
 others_stay (r ∷ lists) zero zero rest unlike = absurd (unlike refl)
 others_stay (r ∷ lists) zero (suc k) rest unlike = refl
@@ -154,10 +154,10 @@ others_stay (r ∷ lists) (suc i) (suc k) rest unlike =
 -- what was taken out of the lists as they are lent, and what is left of them
 module _ (lists shown lent new : List (List Row)) (i n : ℕ) (won : List ℕ) (r : Option Row)
     (seen : shown ≡ lists) (same : lent ≡ lists) (len : length lent ≡ n) (runs : AreRuns lists)
-    (first : IsFirst first_in shown i) (some : is_some r ≡ true)
+    (first : ComesFirst first_in shown i) (some : is_some r ≡ true)
     (takes : IfSome r (λ x. TakesAt lent i x new)) (played : IsPlayed first_in new won) where
-  is_first : IsFirst first_in lists i
-  is_first = subst (λ (ls : List (List Row)). IsFirst first_in ls i) seen first
+  is_first : ComesFirst first_in lists i
+  is_first = subst (λ (ls : List (List Row)). ComesFirst first_in ls i) seen first
 
   left : (q : Option Row) → is_some q ≡ true → IfSome q (λ x. TakesAt lent i x new)
       → AreRuns new × (length new ≡ length lent)
@@ -184,7 +184,7 @@ module _ (lists shown lent new : List (List Row)) (i n : ℕ) (won : List ℕ) (
 
   module _ (rows : List Row) (is : all_ahead lists ≡ rows) where
     taken_by : (Q : Row → Type 0) (q : Option Row) → IfSome q (λ x. TakesAt lent i x new)
-        → ((y : Row) → row_at first_in lists i ≡ Some y → Q y)
+        → ((y : Row) → front_at first_in lists i ≡ Some y → Q y)
         → IfSome q (λ x. IsTakenOut rows x (all_ahead whole) × Q x)
     taken_by Q None t h = tt
     taken_by Q (Some x) t h =
@@ -200,7 +200,7 @@ module _ (lists shown lent new : List (List Row)) (i n : ℕ) (won : List ℕ) (
     alone None t = tt
     alone (Some x) t = (taken_by (λ y. Unit {0}) (Some x) t (λ y h. tt)).0
 
-    pub taken : (Q : Row → Type 0) → ((y : Row) → row_at first_in lists i ≡ Some y → Q y)
+    pub taken : (Q : Row → Type 0) → ((y : Row) → front_at first_in lists i ≡ Some y → Q y)
         → IfSome r (λ x. IsTakenOut rows x (all_ahead (take n (new ++ drop (length new) lists)))
         × Q x)
     taken Q h = taken_by Q r takes h
@@ -229,7 +229,7 @@ told_ahead (rows ∷ lists) r = both rows r.0.told (told_ahead lists r.1)
 
 -- ---- none are left
 
-pub none_ahead : (lists : List (List Row)) → ((k : ℕ) → row_at first_in lists k ≡ None)
+pub none_ahead : (lists : List (List Row)) → ((k : ℕ) → front_at first_in lists k ≡ None)
     → all_ahead lists ≡ []
 none_ahead [] n = refl
 none_ahead ([] ∷ lists) n = none_ahead lists (λ k. n (suc k))

@@ -1,7 +1,7 @@
--- Matches between the rows in front of several streams. No public clause cites this module.
+-- Matches between the rows in front of several streams.
 use Rattle.std.specs.Prelude.{◌≡◌, ℕ, ◌+◌, ◌*◌, ◌/◌, ◌<◌, ◌⊎◌, zero, suc, List, [], ◌∷◌, length, Option}
 use Rattle.aprs_transmissions.specs.Row.{Row}
-use Rattle.aprs_rows.specs.Fronts.{row_at, NotAfter}
+use Rattle.aprs_rows.specs.Fronts.{front_at, NotAfter}
 
 -- The stream that won the match of this number. The numbers after those of all matches stand for
 -- the streams, from stream 0 on.
@@ -15,10 +15,10 @@ pub record IsWon {X : Type 0} (front : X → Option Row) (streams : List X) (win
     (number : ℕ) : Type 0 where
   pub either : (winner_of winners number ≡ winner_of winners (2 * number))
       ⊎ (winner_of winners number ≡ winner_of winners (2 * number + 1))
-  pub one : NotAfter (row_at front streams (winner_of winners number))
-      (row_at front streams (winner_of winners (2 * number)))
-  pub other : NotAfter (row_at front streams (winner_of winners number))
-      (row_at front streams (winner_of winners (2 * number + 1)))
+  pub one : NotAfter (front_at front streams (winner_of winners number))
+      (front_at front streams (winner_of winners (2 * number)))
+  pub other : NotAfter (front_at front streams (winner_of winners number))
+      (front_at front streams (winner_of winners (2 * number + 1)))
 
 -- The winners are among so many streams.
 abbrev pub AreWithin : List ℕ → ℕ → Type 0

@@ -7,12 +7,12 @@
 //! - `IsTakenOut`: this row was taken out and the others remain, none of which it comes after.
 //! - `IsByTest`: whether a row is near to that of this first moment and the greatest reception of
 //!   `latest`. `NoneIsNear`: the first row in order isn't, or there is none.
-//! - `IsFirst`: the list of this number has a row, and no other's comes before it. `TakesAt`: the
-//!   row is its first, and those after it stay. `IsPlayed`: each match of the lists was played.
+//! - `ComesFirst`: the list of this number has a row, and no other's comes before it. `TakesAt`:
+//!   the row is its first, and those after it stay. `IsPlayed`: each match of the lists was played.
 ghost use Rattle.std.specs.Prelude.{◌≡◌, ◌≢◌, ◌++◌, true, [], All, IfOk, IfSome, IfNone, is_some, OnOk, OnErr};
 ghost use Rattle.aprs_transmissions.specs.Gap.{millis_of};
 ghost use Rattle.aprs_transmissions.specs.Sound.{AreSoundRows};
-ghost use Rattle.aprs_rows.specs.Fronts.{IsFirst};
+ghost use Rattle.aprs_rows.specs.Fronts.{ComesFirst};
 ghost use Rattle.aprs_rows.specs.Matches.{IsPlayed};
 ghost use Rattle.aprs_rows.specs.Merger.{all_ahead, first_in, AreRuns, HaveRows, IsByTest, IsRun, IsTakenOut, NoneIsNear, TakesAt};
 ghost use Rattle.aprs_rows.specs.Told.{HasNamesAndFrame};
@@ -109,7 +109,7 @@ fn take_at<'a, A: Allocator + Copy>(
     tournament: &mut Tournament<A>,
     index: usize,
 ) -> Option<RowView<'a>>
-    requires first { IsFirst first_in fronts.old index }
+    requires first { ComesFirst first_in fronts.old index }
     requires played { IsPlayed first_in fronts.old tournament.old }
     ensures some { IfSome result (λ x. TakesAt fronts.old index x fronts.new) }
     ensures none { is_some result ≡ true }

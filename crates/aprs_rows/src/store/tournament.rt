@@ -7,10 +7,10 @@
 //! - `IsAbove`: the matches that come after this number, from the next one to the last.
 //! - `AreWithin`: the winners are numbers of streams. `NotAfter`: the one row doesn't come after
 //!   the other; a row that isn't there comes after all.
-//! - `IsFirst`: the stream of this number has a row in front, and no other's comes before it.
+//! - `ComesFirst`: the stream of this number has a row in front, and no other's comes before it.
 ghost use Rattle.std.specs.Prelude.{◌≡◌, ◌≢◌, ◌<◌, ◌+◌, ◌⊎◌, ℕ, [], true, false, is_some, IfNone, IfOk, IfSome, OnErr, None, Option, length};
 ghost use Rattle.aprs_transmissions.specs.Row.{Row};
-ghost use Rattle.aprs_rows.specs.Fronts.{row_at, IsFirst, NotAfter};
+ghost use Rattle.aprs_rows.specs.Fronts.{front_at, ComesFirst, NotAfter};
 ghost use Rattle.aprs_rows.specs.Matches as Spec;
 
 use crate::Memory;
@@ -66,8 +66,8 @@ impl<A: Allocator + Copy> Tournament<A> {
     /// The number of the stream whose row comes first of all, or `None` where none has a row.
     pub fn first<T: HasFront>(&self, streams: &[T]) -> Option<usize>
         requires { Spec.IsPlayed T.front streams.now self.now }
-        ensures some { IfSome result (IsFirst T.front streams.now) }
-        ensures none { IfNone result ((k : ℕ) → row_at T.front streams.now k ≡ None) }
+        ensures some { IfSome result (ComesFirst T.front streams.now) }
+        ensures none { IfNone result ((k : ℕ) → front_at T.front streams.now k ≡ None) }
     {
         if streams.is_empty() {
             return None;
@@ -152,9 +152,10 @@ fn earlier<T: HasFront>(streams: &[T], one: usize, other: usize) -> usize
     requires one { one < length streams.now }
     requires other { other < length streams.now }
     ensures either { (result ≡ one) ⊎ (result ≡ other) }
-    ensures one { NotAfter (row_at T.front streams.now result) (row_at T.front streams.now one) }
-    ensures other { NotAfter (row_at T.front streams.now result)
-        (row_at T.front streams.now other) }
+    ensures one { NotAfter (front_at T.front streams.now result)
+        (front_at T.front streams.now one) }
+    ensures other { NotAfter (front_at T.front streams.now result)
+        (front_at T.front streams.now other) }
 {
     if streams[other].is_before(&streams[one]) {
         other

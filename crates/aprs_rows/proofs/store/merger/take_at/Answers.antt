@@ -2,7 +2,7 @@ use Rattle.std.proofs.Common.{◌∙◌, get_or, sym}
 use Rattle.std.proofs.lemmas.List.{length-set}
 use Rattle.std.specs.Prelude.{set}
 use Rattle.aprs_rows.specs.Merger.{first_in}
-use Rattle.aprs_rows.proofs.Fronts.{row_at-get}
+use Rattle.aprs_rows.proofs.Fronts.{front_at-get}
 use Rattle.aprs_rows.proofs.Matches.{opened_again}
 use Rattle.aprs_rows.proofs.Merger.{is_taken, others_stay}
 use Rattle.aprs_rows.proofs.store.merger.take_at.Goals as goal
@@ -21,4 +21,4 @@ returns-clause-none g c =
     let d = c.index-fronts-index.result in
     is_taken c.take-row.result (get_or lists c.args.index d) c.take-row.new.self
     c.requires.first.row c.take-row.ensures.none
-    (sym (row_at-get first_in lists c.args.index d c.requires.first.within) ∙ c.requires.first.is)
+    (sym (front_at-get first_in lists c.args.index d c.requires.first.within) ∙ c.requires.first.is)

@@ -1,4 +1,4 @@
-use Rattle.aprs_rows.specs.Fronts.{row_at}
+use Rattle.aprs_rows.specs.Fronts.{front_at}
 use Rattle.aprs_rows.proofs.Fronts.{not_after_of, NotAfter-itself}
 use Rattle.aprs_rows.proofs.store.tournament.earlier.Goals as goal
 
@@ -11,11 +11,11 @@ returns-then-is_before-clause-one g c =
 
 pub returns-then-is_before-clause-other : goal.returns-then-is_before-clause-other
 returns-then-is_before-clause-other g c =
-    NotAfter-itself (row_at g.T.HasFront.front c.args.streams.now c.args.other)
+    NotAfter-itself (front_at g.T.HasFront.front c.args.streams.now c.args.other)
 
 pub returns-else-is_before-clause-one : goal.returns-else-is_before-clause-one
 returns-else-is_before-clause-one g c =
-    NotAfter-itself (row_at g.T.HasFront.front c.args.streams.now c.args.one)
+    NotAfter-itself (front_at g.T.HasFront.front c.args.streams.now c.args.one)
 
 pub returns-else-is_before-clause-other : goal.returns-else-is_before-clause-other
 returns-else-is_before-clause-other g c =

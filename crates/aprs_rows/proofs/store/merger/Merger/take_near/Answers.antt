@@ -1,6 +1,6 @@
 use Rattle.aprs_rows.proofs.Common.{◌≡◌, ◌∙◌, ◌<◌, true, List, None, Some, Row, length, get_or, ap, arith, inl, inr, refl, sym, subst}
 use Rattle.aprs_transmissions.specs.Gap.{millis_of}
-use Rattle.aprs_rows.specs.Fronts.{IsFirst, row_at}
+use Rattle.aprs_rows.specs.Fronts.{ComesFirst, front_at}
 use Rattle.aprs_rows.specs.Merger.{all_ahead, first_in, IsByTest}
 use Rattle.aprs_rows.proofs.Fronts.{row_is}
 use Rattle.aprs_rows.proofs.Merger.{first_out, if_none, none_ahead, same_some, still, taken}
@@ -22,7 +22,7 @@ returns-in_err-row-clause-none g c =
     (subst (λ (ls : List (List Row)). c.in_ok-index.index < length ls)
     (c.as_slice.ensures.value ∙ sym c.as_slice-2.ensures.value) f.within)
     c.index-as_slice-index.is in
-    let is = subst (λ (ls : List (List Row)). row_at first_in ls c.in_ok-index.index ≡ Some f.row)
+    let is = subst (λ (ls : List (List Row)). front_at first_in ls c.in_ok-index.index ≡ Some f.row)
     (c.as_slice.ensures.value ∙ sym c.as_slice-2.ensures.value) f.is in
     absurd (let e : None ≡ Some f.row = sym c.in_err-row.ensures.none ∙ sym at ∙ is in cc)
 
@@ -30,7 +30,7 @@ pub returns-then-not-are_near-clause-none : goal.returns-then-not-are_near-claus
 returns-then-not-are_near-clause-none g c =
     let t = first_out c.self.inside.fronts.items c.in_ok-index.index c.index-as_slice-index.result
     c.in_ok-row.row.now c.args.self.now c.self.invariant.0
-    (subst (λ (ls : List (List Row)). IsFirst first_in ls c.in_ok-index.index)
+    (subst (λ (ls : List (List Row)). ComesFirst first_in ls c.in_ok-index.index)
     c.as_slice.ensures.value c.in_ok-index.ensures.some)
     (subst (λ (ls : List (List Row)). c.index-as_slice-index.result
     ≡ get_or ls c.in_ok-index.index c.index-as_slice-index.result) c.as_slice-2.ensures.value
