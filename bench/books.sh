@@ -33,6 +33,7 @@ show_year() { "$@" "$program" show year.book; }
 widen_year() { "$@" "$program" widen 60 year.book; }
 plain_year() { "$@" plain/book_merge year.book; }
 fold_books() { "$@" "$fold" three/a.book three/b.book three/c.book; }
+check_books() { "$@" "$fold" --check three/a.book three/b.book three/c.book; }
 fold_day() { "$@" "$fold" year.book day.book; }
 news_day() { "$@" "$fold" --new-to year.book day.book; }
 fold_year_and_news() { "$@" "$fold" year.book news.book; }
@@ -46,6 +47,8 @@ cat_books() { "$@" cat three/a.book three/b.book three/c.book; }
 fold_receivers() { "$@" "$fold" odd.book even.book; }
 plain_receivers() { "$@" plain/book_merge odd.book even.book; }
 book_of_all() { cat all.book; }
+merge_stations() { "$@" "$program" merge once.log; }
+show_stations() { "$@" "$program" show once.log; }
 receivers_log() { "$@" "$program" merge receivers.log; }
 receivers_book() { "$@" "$program" merge receivers.book; }
 three_receivers() { "$@" "$program" merge three.log; }
@@ -112,20 +115,30 @@ measure_folds() {
         same "$run and C, $lines lines" "$run" book_of_all
     done
 
-    take_turns fold_books plain_books merge_books sort_rows cat_books
+    take_turns fold_books plain_books merge_books sort_rows cat_books check_books
     time_row 'fold of three book files / C that merges in memory' "$lines" 1.0 fold_books plain_books
     time_row 'fold of three book files / merge of them' "$lines" 1.0 fold_books merge_books
     time_row 'fold of three book files / sort -m of their rows' "$lines" - fold_books sort_rows
     time_row 'fold of three book files / cat of them' "$lines" - fold_books cat_books
     most_row 'fold of three book files: peak memory / 4 MiB' "$lines" 4096 fold_books
+    time_row 'check of three book files / fold of them' "$lines" 0.6 check_books fold_books
     take_turns fold_day plain_day news_day
     time_row "fold of a day's book into a year's / C" "$lines" 0.9 fold_day plain_day
     most_row 'the same: peak memory / 4 MiB' "$lines" 4096 fold_day
     time_row "what is new in a day's book to a year's / the fold of both" "$lines" 1.1 news_day fold_day
     take_turns fold_64_books plain_64_books fold_1000_books
     time_row 'fold of 64 book files / C' "$lines" - fold_64_books plain_64_books
-    time_row 'fold of 1,000 book files / fold of 64' "$lines" 2.0 fold_1000_books fold_64_books
+    time_row 'fold of 1,000 book files / fold of 64' "$lines" 1.5 fold_1000_books fold_64_books
     most_row 'fold of 1,000 book files: peak memory / 64 MiB' "$lines" 65536 fold_1000_books
+}
+
+# measure_stations LINES: of a log with a station of its own in each line
+measure_stations() {
+    local lines=$1
+    python3 "$here/make_log.py" once "$lines" > once.log
+    take_turns merge_stations show_stations
+    time_row 'show of stations heard once / merge of them' "$lines" 4.0 show_stations merge_stations
+    memory_row 'show of stations heard once / merge of them: peak memory' "$lines" 3.0 show_stations merge_stations
 }
 
 # measure_receivers LINES: of one transmission, each line by another receiver, and as many lines by three.
@@ -160,6 +173,7 @@ ratio_head
 for lines; do
     measure_books "$lines"
     measure_folds "$lines"
+    measure_stations "$lines"
 done
 measure_receivers "${RECEIVERS:-80000}"
 echo

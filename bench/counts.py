@@ -83,18 +83,9 @@ def make_inputs(programs: Dict[str, pathlib.Path], folder: pathlib.Path) -> None
     (folder / "day.log").write_bytes(b"".join(lines[-300:]))
     run(aprsbook, "merge", "year.log", *LOGS[1:], to="year.book")
     run(aprsbook, "merge", "day.log", to="day.book")
-    (folder / "once.log").write_text("".join(map(line_of_station, range(LINES))), encoding="ascii")
+    run(sys.executable, generator, "once", str(LINES), to="once.log")
     for source in (HERE / "plain").glob("*.c"):
         run("cc", "-O2", "-o", f"plain/{source.stem}", str(source), to="said")
-
-
-def line_of_station(number: int) -> str:
-    """A line of a log of a station of its own, with a status."""
-    letters = "".join(chr(65 + number // 26 ** at % 26) for at in range(5)) + "X"
-    source = bytes(2 * ord(it) for it in letters)
-    frame = b"\x82\xa0\xa4\xa6@@\xe0" + source + b"\x61\x03\xf0>Hi"
-    return f"2024-05-01T{number // 3600:02}:{number // 60 % 60:02}:{number % 60:02}Z RX1 " \
-           f"c000{frame.hex()}c0\n"
 
 
 def counted(words: Sequence[str], programs: Dict[str, pathlib.Path], folder: pathlib.Path) -> int:

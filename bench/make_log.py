@@ -9,6 +9,8 @@ usage: make_log.py LINES               one log of so many lines, to standard out
                                        same transmissions, with so many lines in all
        make_log.py one-key ROWS        one log of one transmission after another of the same key, each
                                        31 seconds after the last, to standard output
+       make_log.py once LINES          one log of a status by a station of its own in each line, to
+                                       standard output
        make_log.py receivers N LINES   one log of one transmission, which N receivers hear within ten
                                        seconds, with so many lines, to standard output
        make_log.py apart N LINES       the same with each line 40 seconds after the last
@@ -116,6 +118,12 @@ def write_one_key(rows: int, out: BinaryIO) -> None:
         out.write(line(31 * row, "RX1", heard))
 
 
+def write_once(count: int, out: BinaryIO) -> None:
+    for number in range(count):
+        letters = "".join(chr(65 + number // 26 ** at % 26) for at in range(5))
+        out.write(line(number, "RX1", frame(letters + "X", 0, [], b">Hi")))
+
+
 def write_receivers(count: int, lines: int, apart: bool, out: BinaryIO) -> None:
     numbers = random.Random(3)
     names = ["RX%07d" % i for i in range(count)]
@@ -128,7 +136,8 @@ def write_receivers(count: int, lines: int, apart: bool, out: BinaryIO) -> None:
 
 def main() -> None:
     writers: Dict[str, Callable[[int, BinaryIO], None]] = {
-        "one-key": write_one_key, "hexadecimal": write_hexadecimal, "kinds": write_kinds}
+        "one-key": write_one_key, "hexadecimal": write_hexadecimal, "kinds": write_kinds,
+        "once": write_once}
     if len(sys.argv) == 3 and sys.argv[1] in writers:
         writers[sys.argv[1]](int(sys.argv[2]), sys.stdout.buffer)
     elif len(sys.argv) == 4 and sys.argv[1] in ("receivers", "apart"):
