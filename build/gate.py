@@ -2,7 +2,7 @@
 """Proves and tries everything of this repository, side by side.
 
 usage: build/gate.py prove    the gate: every proof from nothing, every test but those of aprs-net, and of the
-                              edits that must fail those of must-fail/, twelve of a crate that is drawn
+                              edits that must fail those of must-fail/, six of a crate that is drawn
                               by chance, and each that isn't noted as refused
        build/gate.py check    the same over what was proved before, but for the edits that are noted
        build/gate.py build    the proofs of the program and of what it stands on, over those before
@@ -30,10 +30,11 @@ from jobs import Job
 TOP = crates.TOP
 ASIDE = TOP / "out" / "before"
 # how long a job takes, in lines of code that are proved, some 0.1 seconds each: a crate of no lines, each
-# crate below one, a check for edits, an edit, the link of the program, and a make of tests
-CRATE, BELOW, CHECK, EDIT, LINK, TEST = 150, 50, 400, 60, 1_800, 2_000
+# crate below one, a check for edits, an edit, the link of the program, and a make of tests; a line of a
+# test that runs without a proof is half as long
+CRATE, BELOW, CHECK, EDIT, LINK, TEST = 150, 80, 400, 60, 1_500, 500
 # so many edits of one crate are tried anew
-DRAWN = 12
+DRAWN = 6
 # the target that makes the page of an event, where that can be done
 PAGE = "event-page-here"
 # the crate of the program that is installed, by whatever name it is called
@@ -81,7 +82,8 @@ def trials(option: Sequence[str], drawn: str) -> Iterator[Job]:
         count = len(edits.must_fail(name)) + more
         command = ["build/edits.py", *option, "--draw", str(more), "--jobs", jobs.JOBS, name]
         title = f"edits of {name}" + f" ({more} drawn)" * bool(more)
-        yield Job(title, command, frozenset([name]), CHECK + count * EDIT, 2)
+        size = CHECK + count * EDIT if count else 0
+        yield Job(title, command, frozenset([name]), size, 2)
 
 
 def make(target: str, *after: str) -> Job:
@@ -100,7 +102,7 @@ def tests_of_sources() -> Iterator[Job]:
 def tests_of_crates() -> Iterator[Job]:
     """The tests of the crates, built with checks of each access in place of a proof."""
     for name in filter(is_of_tests, crates.rows()):
-        yield Job(f"tests of {name}", ["build/try.sh", name], frozenset(), size_of(name))
+        yield Job(f"tests of {name}", ["build/try.sh", name], frozenset(), size_of(name) // 2)
 
 
 def build() -> List[Job]:

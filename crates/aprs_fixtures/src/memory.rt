@@ -2,6 +2,7 @@
 
 use bumpalo::Bump;
 use std::alloc::Global;
+use std::mem::forget;
 use std::test::Fail;
 
 /// Takes all room of an arena but for so many units of 128 bytes, and refuses any growth beyond. It
@@ -20,9 +21,9 @@ pub fn arena(alloc: Global, units: usize) -> Result<Bump, Fail> {
     let room = units.saturating_mul(64);
     let bump = Bump::try_with_capacity(alloc, room)?;
     bump.set_allocation_limit(Some(0));
-    let beyond = bump.chunk_capacity().saturating_sub(room);
-    if beyond > 0 {
-        bump.try_alloc_slice_fill_clone(beyond, 0u8)?;
-    }
+    let mut beyond: Vec<u8, &Bump> = Vec::new(&bump);
+    beyond.reserve(bump.chunk_capacity().saturating_sub(room))?;
+    // It stays taken.
+    forget(beyond);
     Ok(bump)
 }
