@@ -1,9 +1,41 @@
 import assert from "node:assert/strict";
+import { EventEmitter, once } from "node:events";
 import http from "node:http";
 import { test } from "node:test";
 import { askFor, namesIn, Refused } from "../../page/src/intake/http-get.js";
 
-const after = ms => new Promise(done => setTimeout(done, ms));
+/** In milliseconds, by the clock of a test; nothing of Node waits so long. */
+const LIMIT = 2500;
+/** What lets so much time pass for a wait of the limit. */
+function clockFor(t) {
+  const { setTimeout, clearTimeout } = globalThis, waits = new Map();
+  t.after(() => Object.assign(globalThis, { setTimeout, clearTimeout }));
+  let now = 0;
+  globalThis.setTimeout = (run, wait, ...of) => {
+    if (wait !== LIMIT) return setTimeout(run, wait, ...of);
+    const it = {};
+    waits.set(it, { end: now + wait, run });
+    return it;
+  };
+  globalThis.clearTimeout = it => waits.delete(it) || clearTimeout(it);
+  return ms => {
+    now += ms;
+    for (const [it, { end, run }] of waits) if (end <= now && waits.delete(it)) run();
+  };
+}
+/** Calls this for each part that comes, before it is read: the part before it was read then. */
+function listen(t, onPart) {
+  const { fetch } = globalThis;
+  t.after(() => { globalThis.fetch = fetch; });
+  const transform = (part, control) => {
+    onPart();
+    control.enqueue(part);
+  };
+  globalThis.fetch = async (...of) => {
+    const { ok, status, body } = await fetch(...of);
+    return { ok, status, body: body.pipeThrough(new TransformStream({ transform })) };
+  };
+}
 /** Calls `run` with the address of a server that answers so. */
 async function served(answer, run) {
   const server = http.createServer(answer);
@@ -17,19 +49,30 @@ async function served(answer, run) {
 }
 const textOf = ({ bytes }) => Buffer.from(bytes).toString();
 
-test("what comes slowly is read to its end, and what stops is given up", async () => {
+test("what comes slowly is read to its end, and what stops is given up", async t => {
+  const pass = clockFor(t), client = new EventEmitter();
+  listen(t, () => {
+    pass(LIMIT - 1);
+    client.emit("part");
+  });
+  // each part is sent once the one before has come
   const parts = async (_, response) => {
     for (const part of "abcdefghijklmnop") {
+      const come = once(client, "part");
       response.write(part);
-      await after(250);
+      await come;
     }
     response.end();
   };
-  // a machine that is busy elsewhere is late with a part by up to 2.7 s
   await served(parts, async url =>
-    assert.equal(textOf(await askFor(url, 3000)), "abcdefghijklmnop"));
-  const stops = (_, response) => response.write("a");
-  await served(stops, url => assert.rejects(askFor(url, 300), /^Error: no answer within 0.3 s$/));
+    assert.equal(textOf(await askFor(url, LIMIT)), "abcdefghijklmnop"));
+  const stops = async (_, response) => {
+    const come = once(client, "part");
+    response.write("a");
+    await come;
+    pass(LIMIT);
+  };
+  await served(stops, url => assert.rejects(askFor(url, LIMIT), /^Error: no answer within 2.5 s$/));
 });
 test("a server that refuses, or hangs, is told from one that is away", async () => {
   const refuses = (_, response) => response.writeHead(500).end();

@@ -38,7 +38,8 @@ else
     echo 'left out: names of Python (Debian: apt install pyflakes3)'
 fi
 cd tools
-# what is made of the parsers, by their readers; no line of Python is longer than 100
+# what is made of the parsers, by their readers; no line of Python is longer than 100, and no function
+# has more than 40
 work=$(mktemp -d)
 trap 'rm -r "$work"' EXIT
 if command -v python3 > /dev/null; then
@@ -56,9 +57,16 @@ if command -v python3 > /dev/null; then
     read_by fish -n "$work/aprs-net.fish"
 fi
 long='
-import sys
-long = [f"{it}: line {at} is longer than 100 columns" for it in sys.argv[1:]
-        for at, line in enumerate(open(it, encoding="utf-8"), 1) if len(line) > 101]
+import ast, sys
+long = []
+for it in sys.argv[1:]:
+    with open(it, encoding="utf-8") as file:
+        text = file.read()
+    long += [f"{it}: line {at} is longer than 100 columns"
+             for at, line in enumerate(text.split("\n"), 1) if len(line) > 100]
+    long += [f"{it}: {of.name} has more than 40 lines" for of in ast.walk(ast.parse(text))
+             if isinstance(of, (ast.FunctionDef, ast.AsyncFunctionDef))
+             and of.end_lineno - of.lineno >= 40]
 sys.exit("\n".join(long) or 0)'
 if command -v python3 > /dev/null; then find . -name '*.py' -exec python3 -c "$long" {} +; fi
 [ "$all" = --all ] || exit 0

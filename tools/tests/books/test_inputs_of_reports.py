@@ -187,6 +187,28 @@ def test_a_pipe_of_the_shell_is_read(programs: Programs) -> None:
                              "aprs-net mend writes its whole lines\n")
 
 
+@pytest.mark.parametrize("command", ["keeper", "clocks", "pcap"])
+def test_logs_come_of_pipes(
+        command: str, programs: Programs, monkeypatch: pytest.MonkeyPatch) -> None:
+    """It said "no file" of <(zcat RX1.log.gz), where other commands read it."""
+    (programs.folder / "tmp").mkdir()
+    monkeypatch.setattr(tempfile, "tempdir", str(programs.folder / "tmp"))
+    (programs.folder / "RX1.log").write_text(LINE)
+    status = 1 if command == "clocks" else 0  # no two receivers
+    wanted = programs.run(command, "RX1.log", status=status), programs.said
+    said = []
+    for text in LINE, "faulty\n":
+        reads, writes = os.pipe()
+        os.write(writes, text.encode())
+        os.close(writes)
+        said.append((programs.run(command, f"/dev/fd/{reads}", f"/dev/fd/{reads}",
+                                  status=status if text == LINE else 1), programs.said))
+        os.close(reads)
+    assert said[0] == wanted
+    assert said[1][1].startswith(f"aprs-net: /dev/fd/{reads}: line 1")
+    assert not os.listdir("tmp")
+
+
 @pytest.mark.parametrize("name, octets", [
     ("net.book", b""), ("net.book.gz", b""), ("net.book.gz", gzip.compress(b"", mtime=0))])
 def test_an_empty_book_is_refused(programs: Programs, name: str, octets: bytes) -> None:

@@ -1,10 +1,12 @@
 """Who pushes: where it goes on in a log, by what the server has, and how long it waits."""
 import itertools
 import pathlib
-from typing import List
+from typing import Any, Dict, List, Optional, Tuple
 
 import pytest
 
+from aprsbook_tools import cli
+from aprsbook_tools.errors import ExitStatus
 from aprsbook_tools.formats import ax25, kiss, log_file, moments
 from aprsbook_tools.serving import pushing
 from aprsbook_tools.serving.pushing import Away, Log, Place, Pusher, Server, pauses
@@ -95,3 +97,40 @@ def test_a_server_that_is_away_is_told_once(monkeypatch: pytest.MonkeyPatch) -> 
     assert said == [away, "the server is there again", away] and its.forgotten == 4
     assert [it == 0.25 for it in waits] == [True, False, False, False, True, True, False]
     assert 2 <= waits[3] < 6 and waits[6] < 1.5  # it begins with short pauses again
+
+
+class Refusing:
+    """A server that refuses the lines of these numbers, in logs that are new to it."""
+
+    def __init__(self, *numbers: int) -> None:
+        self.numbers, self.taken = numbers, b""
+
+    def ask(self, method: str, path: str, body: bytes = b"", after: Optional[State] = None
+            ) -> Tuple[int, Dict[str, Any]]:
+        if method == "GET":
+            return 200, {path[-len(DAY):]: EMPTY.text}
+        lines = [*enumerate(body.splitlines(True), 1)]
+        good = [it for number, it in lines if number not in self.numbers]
+        self.taken += b"".join(good)
+        refused = [[number, "Hex", ""] for number, _ in lines if number in self.numbers]
+        return 200, {"state": state_of(good).text, "judged": len(lines), "added": len(good),
+                     "known": 0, "refused": refused}
+
+
+@pytest.mark.parametrize("numbers, status, words", [
+    ((), ExitStatus.DONE, "lines pushed: 10; there before: 0\n"),
+    ((1, 3), ExitStatus.INPUT, "lines pushed: 6; there before: 0; not taken: 4\n")])
+def test_once_fails_where_lines_are_refused(
+        monkeypatch: pytest.MonkeyPatch, capfd: pytest.CaptureFixture[str],
+        tmp_path: pathlib.Path, numbers: Tuple[int, ...], status: ExitStatus, words: str) -> None:
+    """It ended with 0, after the same count. All that can be taken is, also of later logs."""
+    server = Refusing(*numbers)
+    # it stands in for a server
+    monkeypatch.setattr(pushing, "Server", lambda *_: server)
+    for day in "2024-06-20", DAY:
+        lines = [it.replace(DAY.encode(), day.encode()) for it in lines_of(5)]
+        (tmp_path / day).mkdir()
+        (tmp_path / day / "HILL.log").write_bytes(b"".join(lines))
+    assert cli.run(["push", "--once", "http://net.example/", "HILL", str(tmp_path)]) == status
+    assert capfd.readouterr().err.endswith(words)
+    assert server.taken.count(b"\n") == 10 - 2 * len(numbers)

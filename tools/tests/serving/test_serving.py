@@ -265,7 +265,7 @@ def test_push_says_what_is_wrong(net: Served, tmp_path: pathlib.Path) -> None:
     said = tried("push", "--once", "--token", token, net.url, "HILL", tmp_path).stderr
     assert b"lines pushed: " in said and b"not taken" not in said
     (tmp_path / DAY / "HILL.log").write_bytes(line(1) + line(2, "COAST") + line(3, "COAST"))
-    said = tried("push", "--once", "--token", token, net.url, "HILL", tmp_path).stderr
+    said = tried("push", "--once", "--token", token, net.url, "HILL", tmp_path, status=1).stderr
     # the first line is there before, unless the server already says that it has it
     assert b"lines pushed: 0; " in said and said.endswith(b"; not taken: 2\n")
 

@@ -218,9 +218,9 @@ def is_pipe(path: str) -> bool:
 
 
 def is_unpacked(it: Input, is_copied: bool) -> bool:
-    """Whether programs read a copy of an input: of one that is compressed or comes of a pipe, and
-    where all are copied of what can be read."""
-    return bool(it.packing) or is_pipe(it.path) or (is_copied and not it.fault)
+    """Whether programs read a copy of an input: of one that is compressed, and where all are copied
+    of what can be read."""
+    return bool(it.packing) or (is_copied and not it.fault)
 
 
 def are_as_they_are(items: Iterable[Input], is_copied: bool = False) -> bool:

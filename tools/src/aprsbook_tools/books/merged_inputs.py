@@ -11,23 +11,36 @@ from aprsbook_tools.errors import Fault
 from aprsbook_tools.system import programs, streams, temporary
 
 if TYPE_CHECKING:
-    from typing import IO, ContextManager, Iterator, List, Optional, Sequence, Set, Tuple
+    from typing import IO, ContextManager, Dict, Iterator, List, Optional, Sequence, Set, Tuple
+
+
+def read_once(path: str) -> ContextManager[IO[bytes]]:
+    """Standard input or a pipe, to read."""
+    if path == "-":
+        return streams.opened(None)
+    return open(path, "rb")
 
 
 @contextlib.contextmanager
 def spooled(paths: Sequence[str]) -> Iterator[List[str]]:
-    """The paths, in which a file with what standard input has stands for `-`, or for none."""
-    if paths and "-" not in paths:
+    """The paths, in which files stand for what is read once: with what standard input has for `-`,
+    or for none, and with what a pipe has, as the shell's <(..)."""
+    once = dict.fromkeys(it for it in paths or ["-"] if it == "-" or inputs.is_pipe(it))
+    if not once:
         yield list(paths)
         return
     with temporary.folder() as folder:
-        path = os.path.join(folder, "standard input")
-        with streams.opened(None) as given, open(path, "wb") as file:
-            file.writelines(programs.blocks_in(given))
+        copies: Dict[str, str] = {}
+        for number, it in enumerate(once):
+            name = "standard input" if it == "-" else os.path.basename(it)
+            copies[it] = os.path.join(folder, f"{number} {name}")
+            with read_once(it) as given, open(copies[it], "wb") as file:
+                file.writelines(programs.blocks_in(given))
         try:
-            yield [path if it == "-" else it for it in paths or ["-"]]
+            yield [copies.get(it, it) for it in paths or ["-"]]
         except Fault as fault:
-            fault.words = fault.words.replace(path, "standard input")
+            for it, copy in copies.items():
+                fault.words = fault.words.replace(copy, "standard input" if it == "-" else it)
             raise
 
 
@@ -56,7 +69,6 @@ def plain(paths: Sequence[str], most_copied: int = -1) -> Iterator[List[str]]:
                 raise Fault(f"{it.path}: {it.fault}")
             stderr.warn_once(f"{it.path}: {it.fault}: left out")  # a link that leads nowhere
             found.remove(it)
-        # what is named is read, also a pipe, as the shell's <(..)
         is_copied = sum(it.size for it in found) <= most_copied
         has_copies = not inputs.are_as_they_are(found, is_copied)
         folder = stack.enter_context(temporary.folder()) if has_copies else ""
@@ -78,8 +90,7 @@ def said_of(fault: Fault, read: Sequence[Tuple[inputs.Input, str]], folder: str,
     words = fault.words
     for it, file in read:
         if not it.is_book:
-            is_there = it.path not in gone and not inputs.is_pipe(it.path)
-            words += what_mends(fault, file, it.path if is_there else "")
+            words += what_mends(fault, file, "" if it.path in gone else it.path)
         if folder and file.startswith(folder):
             words = words.replace(file, it.path)
     return words

@@ -4,7 +4,7 @@ import struct
 from typing import IO, Iterator, Sequence
 
 from aprsbook_tools import arguments
-from aprsbook_tools.books import receptions
+from aprsbook_tools.books import merged_inputs, receptions
 from aprsbook_tools.formats import kiss, log_file
 from aprsbook_tools.imports.files import AX25_KISS
 from aprsbook_tools.system import atomic, streams
@@ -45,9 +45,12 @@ def capture(paths: Sequence[str]) -> Iterator[bytes]:
 
 
 def run(args: argparse.Namespace) -> int:
-    paths = ["-"]
-    if not arguments.is_standard_input(args.inputs):
-        named = [it for it in args.inputs if it != "-"]
-        paths = [*receptions.logs_of(named), *(["-"] if "-" in args.inputs else [])]
-    streams.put(args.output, capture(paths), atomic.all_of(args.inputs))
+    named = [it for it in args.inputs if it != "-"]
+    if not named:
+        streams.put(args.output, capture(["-"]), atomic.all_of(args.inputs))
+        return 0
+    last = ["-"] if "-" in args.inputs else []
+    with merged_inputs.spooled(named) as paths:
+        logs = [*receptions.logs_of(paths), *last]
+        streams.put(args.output, capture(logs), atomic.all_of(args.inputs))
     return 0

@@ -2,6 +2,7 @@
 import argparse
 
 from aprsbook_tools import arguments
+from aprsbook_tools.errors import ExitStatus
 from aprsbook_tools.serving import push_options
 
 
@@ -35,7 +36,8 @@ def add_arguments(parser: argparse.ArgumentParser) -> None:
     parser.add_argument("--days", type=arguments.whole_number(1, 400), default=push_options.DAYS,
                         metavar="N",
                         help=f"the logs of the last N days that there are ({push_options.DAYS})")
-    parser.add_argument("--once", action="store_true", help="end once all are there")
+    parser.add_argument("--once", action="store_true",
+                        help="end once all are there, with status 1 where lines weren't taken")
     parser.add_argument("url", metavar="URL", help="such as https://net.example:8443/")
     parser.add_argument("name", type=arguments.receiver, metavar="NAME", help="the receiver's name")
     parser.add_argument("logs", metavar="LOGS", help="the folder of the logs")
@@ -48,6 +50,6 @@ def run(args: argparse.Namespace) -> int:
         pushing.push_once(pusher)
         more = f"; not taken: {pusher.left_out}" if pusher.left_out else ""
         push_options.say(f"lines pushed: {pusher.added}; there before: {pusher.known}{more}")
-        return 0
+        return ExitStatus.INPUT if pusher.left_out else ExitStatus.DONE
     pushing.push_on(pusher, args.each, push_options.say)
-    return 0
+    return ExitStatus.DONE

@@ -15,6 +15,7 @@ from aprsbook_tools.system import programs, user_text
 
 if TYPE_CHECKING:
     from aprsbook_tools.serving.loggers import Logger
+    from aprsbook_tools.serving.net import Settings
 
 DESCRIPTION = """\
 Hands out a page that follows the logs below LOGS, and tells each page at once what is new in them,
@@ -142,20 +143,16 @@ def begin_loggers(args: argparse.Namespace, on_write: Callable[[str], object]) -
 
 
 async def serve(args: argparse.Namespace) -> None:
-    from aprsbook_tools.page import event_page, reader_page
+    from aprsbook_tools.page import reader_page
     from aprsbook_tools.serving import server
     from aprsbook_tools.serving.application import application
     from aprsbook_tools.serving.hub import Hub
-    from aprsbook_tools.serving.net import Net, Settings
+    from aprsbook_tools.serving.net import Net
     from aprsbook_tools.serving.store import Store
-    from aprsbook_tools.serving.tile_archives import archives_of
     from aprsbook_tools.serving.tokens import Tokens
     loop = asyncio.get_running_loop()
     tls, tokens = server.context_of(args.tls), Tokens(args.tokens, say)
-    settings = Settings(args.title, args.silent, roster_of(args),
-                        [event_page.read_map(it) for it in args.courses],
-                        archives_of(args.tiles))
-    page = reader_page.read(args.page)
+    settings, page = settings_of(args), reader_page.read(args.page)
     hub = Hub(args.logs, net_logs.days_of(args) if args.days else None)
     store = Store(args.logs, args.quota << 20, say, hub.look_at)
     net = Net(store, hub, tokens, page, settings, args.connections, say)
@@ -182,6 +179,15 @@ async def serve(args: argparse.Namespace) -> None:
     for it in loggers:
         await loop.run_in_executor(None, it.end)
     await loop.run_in_executor(None, store.end)
+
+
+def settings_of(args: argparse.Namespace) -> "Settings":
+    """What the command is told of the net, until a desk sets something else."""
+    from aprsbook_tools.page import event_page
+    from aprsbook_tools.serving.net import Settings
+    from aprsbook_tools.serving.tile_archives import archives_of
+    return Settings(args.title, args.silent, roster_of(args),
+                    [event_page.read_map(it) for it in args.courses], archives_of(args.tiles))
 
 
 def roster_of(args: argparse.Namespace) -> str:
