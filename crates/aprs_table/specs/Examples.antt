@@ -11,13 +11,13 @@ abbrev pub address : List ℕ → ℕ → List ℕ
 address characters last = map (λ c. c * 2) characters ++ last ∷ []
 
 -- The row of a frame with these addresses and this information, which RX1 heard once, at noon of
--- the first of May 2024.
+-- the first day of 1970.
 abbrev pub heard_once : List ℕ → List ℕ → Row
 heard_once addresses info = record {
-  first = 1714564800000;
+  first = 43200000;
   receivers = codes "RX1" ∷ [];
   greatest = record {
-    moment = 1714564800000;
+    moment = 43200000;
     receiver = codes "RX1";
     frame = addresses ++ 0x03 ∷ 0xF0 ∷ info;
   };
@@ -35,10 +35,10 @@ by_wide = address (codes "APRS  ") 0xE0 ++ (address (codes "N0CALL") 0x6E
 -- A status by these digipeaters, which RX1 and RX2 heard, RX2 last, and five seconds later.
 abbrev pub heard_twice : Row
 heard_twice = record {
-  first = 1714564800000;
+  first = 43200000;
   receivers = codes "RX1" ∷ codes "RX2" ∷ [];
   greatest = record {
-    moment = 1714564805000;
+    moment = 43205000;
     receiver = codes "RX2";
     frame = by_wide ++ 0x03 ∷ 0xF0 ∷ codes ">Hi";
   };
@@ -61,8 +61,8 @@ line_with given = join_with_byte 9 (fields_with columns given) ++ 10 ∷ []
 
 -- The fields of a row that was heard once, after its kind.
 abbrev pub once : (kind : List ℕ) → List (List ℕ × List ℕ) → List (List ℕ × List ℕ)
-once kind others = (codes "kind", kind) ∷ (codes "first", codes "2024-05-01T12:00:00.000Z")
-    ∷ (codes "last", codes "2024-05-01T12:00:00.000Z") ∷ (codes "receivers", codes "RX1")
+once kind others = (codes "kind", kind) ∷ (codes "first", codes "1970-01-01T12:00:00.000Z")
+    ∷ (codes "last", codes "1970-01-01T12:00:00.000Z") ∷ (codes "receivers", codes "RX1")
     ∷ (codes "receiver", codes "RX1") ∷ others
 
 -- A frame to APRS with this information is of this kind, and has these fields after those of its

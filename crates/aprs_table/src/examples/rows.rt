@@ -7,14 +7,14 @@ ghost use Rattle.aprs_table.specs.Table.{table_line};
 /// the digipeaters.
 pub fn rows_have_moments_and_receivers()
     ensures twice { table_line heard_twice ≡ line_with (
-        (codes "kind", codes "status") ∷ (codes "first", codes "2024-05-01T12:00:00.000Z") ∷
-        (codes "last", codes "2024-05-01T12:00:05.000Z") ∷ (codes "receivers", codes "RX1,RX2") ∷
+        (codes "kind", codes "status") ∷ (codes "first", codes "1970-01-01T12:00:00.000Z") ∷
+        (codes "last", codes "1970-01-01T12:00:05.000Z") ∷ (codes "receivers", codes "RX1,RX2") ∷
         (codes "receiver", codes "RX2") ∷ (codes "source", codes "N0CALL-7") ∷
         (codes "destination", codes "APRS") ∷ (codes "via", codes "WIDE1-1*,WIDE2-2") ∷
         (codes "text", codes "Hi") ∷ []) }
     ensures once { table_line (heard_once (to (codes "S32UVT")) (codes ">Hi")) ≡ line_with (
-        (codes "kind", codes "status") ∷ (codes "first", codes "2024-05-01T12:00:00.000Z") ∷
-        (codes "last", codes "2024-05-01T12:00:00.000Z") ∷ (codes "receivers", codes "RX1") ∷
+        (codes "kind", codes "status") ∷ (codes "first", codes "1970-01-01T12:00:00.000Z") ∷
+        (codes "last", codes "1970-01-01T12:00:00.000Z") ∷ (codes "receivers", codes "RX1") ∷
         (codes "receiver", codes "RX1") ∷ (codes "source", codes "N0CALL-7") ∷
         (codes "destination", codes "S32UVT") ∷ (codes "text", codes "Hi") ∷ []) }
 {}
