@@ -13,3 +13,11 @@ JoinsOrNot true gap old next new =
 JoinsOrNot false gap old next new = (new ≡ old)
     × ((old ≡ []) ⊎ ((own : Row) × (old ≡ own ∷ [])
     × (is_eq (compare_near gap own next) ≡ false)))
+
+-- At `true` the next row is near to `own`, and the row of both is there. At `false` it isn't near,
+-- and nothing changes.
+abbrev pub PutsJoined : Bool → ℕ → List Row → Row → Row → List Row → Type 0
+PutsJoined true gap old own next new =
+    (is_eq (compare_near gap own next) ≡ true) × (new ≡ combine own next ∷ [])
+PutsJoined false gap old own next new =
+    (is_eq (compare_near gap own next) ≡ false) × (new ≡ old)

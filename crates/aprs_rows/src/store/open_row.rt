@@ -4,7 +4,7 @@ ghost use Rattle.std.specs.Ordering.{is_eq};
 ghost use Rattle.aprs_transmissions.specs.Gap.{IsGap, millis_of};
 ghost use Rattle.aprs_transmissions.specs.JoinRow.{combine, compare_near};
 ghost use Rattle.aprs_transmissions.specs.Sound.{IsSoundRow};
-ghost use Rattle.aprs_rows.specs.OpenRow.{JoinsOrNot};
+ghost use Rattle.aprs_rows.specs.OpenRow.{JoinsOrNot, PutsJoined};
 ghost use Rattle.aprs_rows.specs.Packed.{IsShort};
 
 use crate::Memory;
@@ -105,6 +105,29 @@ impl<A: Allocator + Copy> OpenRow<A> {
             return Ok(false);
         }
         join_into(self.alloc, gap, &mut self.spare, &mut self.names, own, next)?;
+        swap(&mut self.row, &mut self.spare);
+        Ok(true)
+    }
+
+    /// Whether the next row in order is near to `own`, which lies elsewhere: then the row of both is
+    /// put in the place of what is here, and otherwise nothing changes. Requires of both rows what
+    /// `join` does of the next. `Memory` also where the joined row's names would have more bytes.
+    /// After `Memory` there may be any row, or none.
+    pub fn put_joined(
+        &mut self,
+        gap: Gap,
+        own: &RowView<'_>,
+        next: &RowView<'_>,
+    ) -> Result<bool, Memory>
+        requires sound { IsSoundRow own.now × IsSoundRow next.now }
+        requires short { IsShort own.now × IsShort next.now }
+        ensures { IfOk result (λ joined.
+            PutsJoined joined (millis_of gap) self.old own.now next.now self.new) }
+    {
+        if !are_near(gap, own.first(), own, next) {
+            return Ok(false);
+        }
+        join_into(self.alloc, gap, &mut self.spare, &mut self.names, own.copy(), next)?;
         swap(&mut self.row, &mut self.spare);
         Ok(true)
     }
