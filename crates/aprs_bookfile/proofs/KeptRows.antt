@@ -31,7 +31,7 @@ last_pushed (y ∷ []) x = refl
 last_pushed (y ∷ z ∷ rows) x = last_pushed (z ∷ rows) x
 
 -- the last row that is kept is that of all
-last_of_kept : (keeping : Keeping) (rows : List Row)
+pub last_of_kept : (keeping : Keeping) (rows : List Row)
     → last_or None (rows_kept keeping rows) ≡ last_or None rows
 last_of_kept Each rows = refl
 last_of_kept Last rows = by_last (last_or None rows) where

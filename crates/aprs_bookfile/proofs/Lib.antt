@@ -14,6 +14,7 @@ pub mod KeptLines
 pub mod KeptRows
 pub mod LastLines
 pub mod LastRows
+pub mod Moves
 pub mod OneCause
 pub mod OneFault
 pub mod OneText

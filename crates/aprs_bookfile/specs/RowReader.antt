@@ -1,5 +1,5 @@
 -- What a reader holds of a book's text, and which rows it keeps.
-use Rattle.std.specs.Prelude.{◌≡◌, ℕ, ◌+◌, Bool, true, false, List, [], ◌∷◌, ◌++◌, length, Option, None, Some, Result, Ok, Err}
+use Rattle.std.specs.Prelude.{◌≡◌, ℕ, ◌+◌, if◌then◌else◌, Bool, true, false, List, [], ◌∷◌, ◌++◌, length, Option, None, Some, Result, Ok, Err}
 use Rattle.std.specs.List.{last_or}
 use Rattle.aprs_transmissions.specs.BookValue.{BookValue}
 use Rattle.aprs_transmissions.specs.Row.{Row}
@@ -89,6 +89,17 @@ size_read reader = reader.count + length reader.line
 -- The row that is lent, or none.
 abbrev pub row_lent : {A : Type 0} → RowReader A → List Row
 row_lent reader = row_at_stage reader.stage reader.rows
+
+-- The row that was lent before the one that is lent; once the last line was read, the last row.
+abbrev pub row_taken : {A : Type 0} → RowReader A → List Row
+row_taken reader =
+    list_of_row (last_or None (if is_done reader.stage then reader.rows else reader.taken))
+
+-- After one line more: a row was read, and `taken` has the rows that were kept before it; or none
+-- was read, and the same rows are kept.
+abbrev pub MovesOn : Bool → Stage → List Row → List Row → List Row → Type 0
+MovesOn true stage old rows taken = (is_done stage ≡ false) × (taken ≡ old)
+MovesOn false stage old rows taken = rows ≡ old
 
 -- The reader has read this text, which has these rows, whatever it keeps of them. `line` is the
 -- beginning of the next line.

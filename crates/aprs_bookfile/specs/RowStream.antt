@@ -1,13 +1,15 @@
 -- How far the rows of a book's text were read of an input.
-use Rattle.std.specs.Prelude.{◌≡◌, ℕ, ◌+◌, ◌*◌, ◌⊎◌, if◌then◌else◌, Bool, true, false, List, [], ◌∷◌, ◌++◌, length, Option, Ok, Err}
+use Rattle.std.specs.Prelude.{◌≡◌, ℕ, ◌+◌, ◌*◌, ◌⊎◌, if◌then◌else◌, Bool, true, false, List, [], ◌∷◌, ◌++◌, length, Option, None, Ok, Err}
+use Rattle.std.specs.List.{last_or}
 use Rattle.aprs_io.specs.Device.{Calls, Going}
 use Rattle.aprs_io.specs.declared.device.Counted.{Counted}
 use Rattle.aprs_transmissions.specs.Row.{Row}
 use Rattle.aprs_bookfile.specs.Piece.{bytes_left}
 use Rattle.aprs_bookfile.specs.Reader.{gap_in, is_done}
 use Rattle.aprs_bookfile.specs.Reading.{Got, IsAnswered}
-use Rattle.aprs_bookfile.specs.RowReader.{row_lent, size_read, HasReadText, HasReadTo, StopsHere}
+use Rattle.aprs_bookfile.specs.RowReader.{list_of_row, row_lent, row_taken, size_read, HasReadText, HasReadTo, StopsHere}
 use Rattle.aprs_bookfile.specs.declared.fault.BookFault.{BookFault}
+use Rattle.aprs_bookfile.specs.declared.row_reader.Keeping.TheVariants.{Last}
 use Rattle.aprs_bookfile.specs.declared.row_stream.RowStream.{RowStream}
 
 -- How many rows there were, and how many bytes were read and not judged or may still be read,
@@ -23,6 +25,10 @@ stream_ahead stream = stream.left * 2 + length (bytes_left stream.piece)
 -- The row that is lent, or none.
 abbrev pub front_of : {A : Type 0} → RowStream A → List Row
 front_of stream = row_lent stream.reader
+
+-- The row that was lent before the one that is lent; once the last line was read, the last row.
+abbrev pub taken_of : {A : Type 0} → RowStream A → List Row
+taken_of stream = row_taken stream.reader
 
 -- Whether the last line was read; bytes may follow it.
 abbrev pub is_ended : {A : Type 0} → RowStream A → Bool
@@ -86,6 +92,15 @@ IsFaultyAfter {R = R} remaining fault old new stream =
     (limit : ℕ) (head : List ℕ) (first : Counted R) (rows : List Row)
     → HasGot remaining limit head first old stream rows
     → IsAnswered remaining limit head (Err fault) first new
+
+-- Where the text of some rows was got before, and the last alone is kept, the last of these rows is
+-- the one that is taken.
+abbrev pub TakesLast : {R A : Type 0} → (R → Option (List ℕ)) → Counted R → RowStream A
+    → RowStream A → Type 0
+TakesLast {R = R} remaining now old new =
+    (limit : ℕ) (head : List ℕ) (first : Counted R) (rows : List Row) → old.reader.keeping ≡ Last
+    → HasGot remaining limit head first now old rows
+    → taken_of new ≡ list_of_row (last_or None rows)
 
 -- The text of some rows was got before, and each row is kept. Then, if an allocation failed, the
 -- fault names the line after those of the rows that are kept now.

@@ -46,18 +46,18 @@ impl<'a> LentRow<'a> {
         LentRow { row, line }
     }
 
+    /// The row, whose line isn't known. Takes no memory.
+    pub fn without_line(row: RowView<'a>) -> LentRow<'a>
+        ensures { result ≡ row.entry }
+    {
+        LentRow { row, line: &[] }
+    }
+
     /// The row. Takes no memory.
     pub fn row(&self) -> &RowView<'a>
         ensures { result.now ≡ self.now }
     {
         &self.row
-    }
-
-    /// The row's line, without its LF, or an empty text where it isn't known.
-    pub(crate) fn line(&self) -> &'a [u8]
-        ensures { IsKeptLine result.now (Some self.now) }
-    {
-        self.line
     }
 
     /// Puts the row's line, with its LF, into `out`. At a fault a prefix of what `out` held and of

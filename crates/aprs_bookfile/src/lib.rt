@@ -10,7 +10,6 @@ mod hexadecimal;
 mod kept_rows;
 mod laws;
 mod lent_row;
-mod open_line;
 mod piece;
 mod read;
 mod row_buffers;
@@ -34,7 +33,6 @@ pub use laws::{
     read_books_are_written_back, written_books_are_read,
 };
 pub use lent_row::LentRow;
-pub use open_line::OpenLine;
 pub use read::read_rows;
 pub use row_stream::RowStream;
 pub use version::Version;

@@ -14,6 +14,8 @@
 //! - `IsOfText`: no read failed, and the limit wasn't passed. `KeepsVersion`: the header's version
 //!   stays.
 //! - `JudgesKept`: the line is judged so after these rows, and of those after it these are kept.
+//! - `MovesOn`: a row was read, and the last one before it is the one that is taken; or none was,
+//!   and the rows stay.
 //! - `IsAnswerFor answer text ending`: a book, if the text is that of its rows and the input ended
 //!   after it; or a fault that the text has at this ending.
 ghost use Rattle.std.specs.Prelude.{All, ◌≡◌, ◌<◌, ◌+◌, ◌≤◌, ◌++◌, ◌∷◌, ℕ, [], false, List, length, None, Some, OnErr, OnOk, IfErr, IfOk, IfSome, IfNone};
@@ -28,7 +30,7 @@ ghost use Rattle.aprs_bookfile.specs.Reader as Spec;
 ghost use Rattle.aprs_bookfile.specs.Lines.{pieces};
 ghost use Rattle.aprs_bookfile.specs.Text.{row_line};
 ghost use Rattle.aprs_log.specs.Receiver.{IsName};
-ghost use Rattle.aprs_bookfile.specs.RowReader.{answer_read, count_after, is_row_between, kept_after, most_stream, row_lent, rows_kept, size_read, version_in, HasReadText, HasReadTo, JudgesKept, KeepsVersion, ReadsOne, StopsHere};
+ghost use Rattle.aprs_bookfile.specs.RowReader.{answer_read, count_after, is_row_between, kept_after, most_stream, row_lent, row_taken, rows_kept, size_read, version_in, HasReadText, HasReadTo, JudgesKept, KeepsVersion, MovesOn, ReadsOne, StopsHere};
 
 use crate::end_line::end_line;
 use crate::fault::{BookCause, BookFault};
@@ -44,7 +46,7 @@ use aprs_log::MomentForm;
 use aprs_rows::{MOST_NAMES, Memory, PackedRows, RowView};
 use aprs_transmissions::Gap;
 use std::alloc::Allocator;
-use std::mem::replace;
+use std::mem::{replace, swap};
 
 /// Which rows of a text are kept.
 #[derive(Clone, Copy, Debug, PartialEq, Eq)]
@@ -65,6 +67,8 @@ pub struct RowReader<A: Allocator> {
     keeping: Keeping,
     /// The rows that are kept.
     rows: KeptRows<A>,
+    /// The row before the last one, where the last alone is kept.
+    taken: KeptRows<A>,
     /// How many rows there were.
     count: usize,
 }
@@ -84,6 +88,7 @@ impl<A: Allocator + Copy> RowReader<A> {
             buffers: RowBuffers::new(),
             keeping,
             rows: KeptRows::new(alloc),
+            taken: KeptRows::new(alloc),
             count: 0,
         }
     }
@@ -136,6 +141,24 @@ impl<A: Allocator + Copy> RowReader<A> {
         }
     }
 
+    /// The row that was read before the one that is lent, with its line where that is kept; once the
+    /// last line was read, the last row. `None` where there is none, or where each row is kept and
+    /// the last line wasn't read. After a fault it may be any row, or `None`.
+    pub fn taken(&self) -> Option<LentRow<'_>>
+        ensures some { IfSome result (λ x. row_taken self.now ≡ x ∷ []) }
+        ensures none { IfNone result (row_taken self.now ≡ []) }
+        // A row is sound by itself, and its receivers' names have fewer than 4,294,967,296 bytes.
+        ensures own { IfSome result (λ x. IsSoundRow x × IsShort x) }
+    {
+        let rows = if is_done(self.stage) {
+            &self.rows
+        } else {
+            &self.taken
+        };
+        rows.sound();
+        rows.last_lent()
+    }
+
     /// The rows that are kept, which then are kept no more.
     pub fn take_rows(&mut self, alloc: A) -> PackedRows<A>
         ensures rows { result ≡ self.old.rows }
@@ -158,6 +181,7 @@ impl<A: Allocator + Copy> RowReader<A> {
         ensures size { OnOk result (size_read self.new ≤ size_read self.old + length bytes.now) }
         ensures stage { self.new.stage ≡ self.old.stage }
         ensures keeping { self.new.keeping ≡ self.old.keeping }
+        ensures rows { self.new.rows ≡ self.old.rows }
         ensures fault { IfErr result (λ fault. (rows : List Row) (t more : List ℕ)
             → HasReadTo self.old rows t
             → Spec.IsFault (length bytes.now + length more) fault ((t ++ bytes.now) ++ more)) }
@@ -183,6 +207,8 @@ impl<A: Allocator + Copy> RowReader<A> {
             → ReadsOne is_row self.new rows ((t ++ part.now) ++ 10 ∷ [])) }
         ensures version { OnOk result (KeepsVersion self.old.stage self.new.stage) }
         ensures keeping { self.new.keeping ≡ self.old.keeping }
+        ensures moves { IfOk result (λ is_row. self.old.keeping ≡ Keeping.Last
+            → MovesOn is_row self.new.stage self.old.rows self.new.rows self.new.taken) }
         ensures size { OnOk result
             (size_read self.new ≤ size_read self.old + length part.now + 1) }
         ensures fault { IfErr result (λ fault. (rows : List Row) (t more : List ℕ)
@@ -210,6 +236,8 @@ impl<A: Allocator + Copy> RowReader<A> {
             → ReadsOne is_row self.new rows ((t ++ line.now) ++ 10 ∷ [])) }
         ensures version { OnOk result (KeepsVersion self.old.stage self.new.stage) }
         ensures keeping { self.new.keeping ≡ self.old.keeping }
+        ensures moves { IfOk result (λ is_row. self.old.keeping ≡ Keeping.Last
+            → MovesOn is_row self.new.stage self.old.rows self.new.rows self.new.taken) }
         ensures size { OnOk result (size_read self.new ≤ size_read self.old + 1) }
         ensures fault { IfErr result (λ fault. (rows : List Row) (t more : List ℕ)
             → HasReadTo self.old rows t → Lacks 10 line.now
@@ -223,6 +251,7 @@ impl<A: Allocator + Copy> RowReader<A> {
             self.keeping,
             self.count,
             &mut self.rows,
+            &mut self.taken,
             &mut self.buffers,
             line,
         );
@@ -241,6 +270,8 @@ impl<A: Allocator + Copy> RowReader<A> {
             → HasReadTo self.old rows t → ReadsOne is_row self.new rows (t ++ 10 ∷ [])) }
         ensures version { OnOk result (KeepsVersion self.old.stage self.new.stage) }
         ensures keeping { self.new.keeping ≡ self.old.keeping }
+        ensures moves { IfOk result (λ is_row. self.old.keeping ≡ Keeping.Last
+            → MovesOn is_row self.new.stage self.old.rows self.new.rows self.new.taken) }
         ensures size { OnOk result (size_read self.new ≤ size_read self.old + 1) }
         ensures fault { IfErr result (λ fault. (rows : List Row) (t more : List ℕ)
             → HasReadTo self.old rows t → Spec.IsFault (length more + 1) fault (t ++ 10 ∷ more)) }
@@ -253,6 +284,7 @@ impl<A: Allocator + Copy> RowReader<A> {
             self.keeping,
             self.count,
             &mut self.rows,
+            &mut self.taken,
             &mut self.buffers,
             self.line.as_slice(),
         );
@@ -273,6 +305,7 @@ impl<A: Allocator + Copy> RowReader<A> {
         ensures count { self.new.count ≡ count_after result self.old.count }
         ensures line { self.new.line ≡ self.old.line }
         ensures rows { self.new.rows ≡ self.old.rows }
+        ensures taken { self.new.taken ≡ self.old.taken }
         ensures keeping { self.new.keeping ≡ self.old.keeping }
     {
         let is_row = is_row_between(&self.stage, &stage);
@@ -350,7 +383,8 @@ fn is_row_between(before: &Stage, after: &Stage) -> bool
 }
 
 /// Judges a whole line at this stage, after so many rows, of which `rows` has those that are kept,
-/// and returns the stage after it. A row of the line is kept too. Fails with the cause for which
+/// and returns the stage after it. A row of the line is kept too; where the last alone is kept, the
+/// one before it goes to `taken`. Fails with the cause for which
 /// the line is wrong, or with `Memory` where an allocation failed or a row's names have 4 GiB or
 /// more.
 fn judge<A: Allocator + Copy>(
@@ -358,17 +392,20 @@ fn judge<A: Allocator + Copy>(
     keeping: Keeping,
     count: usize,
     rows: &mut KeptRows<A>,
+    taken: &mut KeptRows<A>,
     buffers: &mut RowBuffers,
     line: &[u8],
 ) -> Result<Stage, BookCause>
     ensures judged { (all : List Row) → count ≡ length all → rows.old ≡ rows_kept keeping all
         → JudgesKept keeping stage result all line.now rows.new }
     ensures version { IfOk result (KeepsVersion stage) }
+    ensures moves { IfOk result (λ next. keeping ≡ Keeping.Last
+        → MovesOn (is_row_between stage next) next rows.old rows.new taken.new) }
     ensures cause { IfErr result Spec.IsOfText }
 {
     match stage {
         Stage::Header => judge_header(line),
-        Stage::Rows(version) => judge_row(version, keeping, count, rows, buffers, line),
+        Stage::Rows(version) => judge_row(version, keeping, count, rows, taken, buffers, line),
         Stage::Done(_) => Err(BookCause::After),
     }
 }
@@ -379,12 +416,15 @@ fn judge_row<A: Allocator + Copy>(
     keeping: Keeping,
     count: usize,
     rows: &mut KeptRows<A>,
+    taken: &mut KeptRows<A>,
     buffers: &mut RowBuffers,
     line: &[u8],
 ) -> Result<Stage, BookCause>
     ensures judged { (all : List Row) → count ≡ length all → rows.old ≡ rows_kept keeping all
         → JudgesKept keeping (Stage.Rows version) result all line.now rows.new }
     ensures version { IfOk result (λ next. version_in next ≡ Some version) }
+    ensures moves { IfOk result (λ next. keeping ≡ Keeping.Last → MovesOn
+        (is_row_between (Stage.Rows version) next) next rows.old rows.new taken.new) }
     ensures cause { IfErr result Spec.IsOfText }
 {
     if line.starts_with(b"END") {
@@ -398,7 +438,7 @@ fn judge_row<A: Allocator + Copy>(
     if row.receivers().len() > MOST_NAMES {
         return Err(BookCause::Memory);
     }
-    match keep(keeping, rows, &row, version.form(), line) {
+    match keep(keeping, rows, taken, &row, version.form(), line) {
         Ok(()) => Ok(Stage::Rows(version)),
         Err(_) => Err(BookCause::Memory),
     }
@@ -415,10 +455,12 @@ fn names_of<'r>(row: &Option<RowView<'r>>) -> &'r [u8]
 }
 
 /// Keeps a row, whose line in this form is `line`: after the others where each is kept, and else
-/// in their place. After `Memory` the rows are as before where each is kept, and else any.
+/// in the place of the last, which goes to `taken`. After `Memory` the rows are as before where each
+/// is kept, and else any.
 fn keep<A: Allocator + Copy>(
     keeping: Keeping,
     rows: &mut KeptRows<A>,
+    taken: &mut KeptRows<A>,
     row: &RowView<'_>,
     form: MomentForm,
     line: &[u8],
@@ -427,10 +469,14 @@ fn keep<A: Allocator + Copy>(
     requires short { length (join_with_byte 44 row.now.receivers) < 4294967296 }
     requires spelled { line.now ≡ row_line form row.now }
     ensures kept { OnOk result (rows.new ≡ kept_after keeping rows.old row.now) }
+    ensures taken { OnOk result (keeping ≡ Keeping.Last → taken.new ≡ rows.old) }
     ensures stays { OnErr result (keeping ≡ Keeping.Each → rows.new ≡ rows.old) }
 {
     match keeping {
         Keeping::Each => rows.push(row),
-        Keeping::Last => rows.set(row, form, line),
+        Keeping::Last => {
+            swap(rows, taken);
+            rows.set(row, form, line)
+        }
     }
 }

@@ -11,11 +11,12 @@
 //!   of the rows that are kept.
 //! - `IsAnswered`: the answer is that for the text that was got, and the reader was asked no
 //!   further.
+//! - `TakesLast`: the row that is taken is the last one of those that were got before.
 //! - `front_of` a stream has its row that was read last, or none. `is_ended`: the last line was
 //!   read.
 //! - `stream_size` counts rows that were read, bytes that are held, and bytes that may be read yet.
 //!   `stream_ahead` grows less with each step.
-ghost use Rattle.std.specs.Prelude.{◌≡◌, ◌≢◌, ◌≤◌, ◌<◌, ◌+◌, ◌++◌, ℕ, [], None, Some, List, false, true, length, IfErr, IfOk, IfSome, IfNone, OnOk};
+ghost use Rattle.std.specs.Prelude.{◌≡◌, ◌≢◌, ◌≤◌, ◌<◌, ◌+◌, ◌++◌, ◌∷◌, ℕ, [], None, Some, List, false, true, length, IfErr, IfOk, IfSome, IfNone, OnOk};
 ghost use Rattle.std.specs.List.{last_or};
 ghost use Rattle.aprs_io.specs.declared.device.Counted.{Counted as CountedValue};
 ghost use Rattle.aprs_transmissions.specs.Row.{Row};
@@ -24,7 +25,7 @@ ghost use Rattle.aprs_rows.specs.Packed.{IsShort};
 ghost use Rattle.aprs_bookfile.specs.Reader.{IsFault};
 ghost use Rattle.aprs_bookfile.specs.Reading.{IsAnswered};
 ghost use Rattle.aprs_bookfile.specs.Piece.{bytes_left};
-ghost use Rattle.aprs_bookfile.specs.RowReader.{answer_read, most_stream, HasReadText, KeepsVersion};
+ghost use Rattle.aprs_bookfile.specs.RowReader.{answer_read, most_stream, HasReadText, KeepsVersion, MovesOn};
 ghost use Rattle.aprs_bookfile.specs.RowStream as Spec;
 ghost use Rattle.aprs_bookfile.specs.TextFault.{most_ahead};
 
@@ -57,6 +58,7 @@ impl<A: Allocator + Copy> RowStream<A> {
         ensures left { IfOk result (λ stream. stream.left ≡ limit) }
         ensures size { IfOk result (λ stream. Spec.stream_size stream ≡ limit) }
         ensures going { IfOk result (λ stream. Spec.is_ended stream ≡ false) }
+        ensures keeping { IfOk result (λ stream. stream.reader.keeping ≡ Keeping.Last) }
     {
         RowStream::with_head(alloc, limit, &[], Keeping::Last)
     }
@@ -135,6 +137,17 @@ impl<A: Allocator + Copy> RowStream<A> {
         self.reader.front()
     }
 
+    /// The row that was in front before the last `advance`, with its line where that is kept, or
+    /// `None` where there was none. The stream has to keep the last row alone. Takes no memory.
+    pub fn taken(&self) -> Option<LentRow<'_>>
+        ensures some { IfSome result (λ x. Spec.taken_of self.now ≡ x ∷ []) }
+        ensures none { IfNone result (Spec.taken_of self.now ≡ []) }
+        // A row is sound by itself, and its receivers' names have fewer than 4,294,967,296 bytes.
+        ensures own { IfSome result (λ x. IsSoundRow x × IsShort x) }
+    {
+        self.reader.taken()
+    }
+
     /// Reads on to the next row, or to the end of the book and of the source, and then there is no
     /// row. Fails with the text's first fault, or with `Memory` where an allocation failed or a
     /// row's names have 4 GiB or more. After a fault `row` may be any row, or `None`. Requires that
@@ -152,6 +165,9 @@ impl<A: Allocator + Copy> RowStream<A> {
         ensures size { OnOk result (Spec.stream_size self.new ≤ Spec.stream_size self.old) }
         ensures less { OnOk result (Spec.is_ended self.new ≡ false
             → Spec.stream_ahead self.new < Spec.stream_ahead self.old) }
+        ensures keeping { self.new.reader.keeping ≡ self.old.reader.keeping }
+        ensures taken { OnOk result
+            (Spec.TakesLast R.remaining source.old self.old self.new) }
         ensures fault { IfErr result (λ fault.
             Spec.IsFaultyAfter R.remaining fault source.old source.new self.old) }
     {
@@ -221,6 +237,9 @@ impl<A: Allocator + Copy> RowStream<A> {
         ensures version { OnOk result
             (KeepsVersion self.old.reader.stage self.new.reader.stage) }
         ensures keeping { self.new.reader.keeping ≡ self.old.reader.keeping }
+        ensures moves { IfOk result (λ is_row. self.old.reader.keeping ≡ Keeping.Last
+            → MovesOn is_row self.new.reader.stage self.old.reader.rows self.new.reader.rows
+            self.new.reader.taken) }
         ensures size { OnOk result (Spec.stream_size self.new ≤ Spec.stream_size self.old) }
         ensures less { OnOk result (Spec.stream_ahead self.new < Spec.stream_ahead self.old) }
         ensures fault { IfErr result (λ fault.

@@ -1,5 +1,6 @@
 use Rattle.aprs_bookfile.proofs.Common.{◌∙◌, sym, err_from_is_err_and}
 use Rattle.aprs_bookfile.proofs.KeptRows.{judged_last, judged_refused, judged_row, judged_unread, last_kept}
+use Rattle.aprs_bookfile.proofs.Moves.{moves_end}
 use Rattle.aprs_bookfile.proofs.row_reader.judge_row.Goals as goal
 
 pub returns-then-starts_with-clause-judged : goal.returns-then-starts_with-clause-judged
@@ -33,3 +34,8 @@ returns-in-Ok-clause-judged g c = λ all same kept.
     (last_kept c.args.keeping all c.args.rows.now c.args.line.now kept c.last-before.result
     c.last-before.ensures.some c.last-before.ensures.none ∙ sym c.as_ref.ensures.value))))
     c.in-Ok.ensures.kept
+
+pub returns-then-starts_with-clause-moves : goal.returns-then-starts_with-clause-moves
+returns-then-starts_with-clause-moves g c =
+    moves_end c.args.version c.judge_end.result c.args.count c.args.line.now c.args.keeping
+    c.args.rows.now c.args.taken.now c.judge_end.ensures

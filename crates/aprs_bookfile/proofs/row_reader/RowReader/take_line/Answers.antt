@@ -29,3 +29,8 @@ pub returns-in-Err-clause-stops : goal.returns-in-Err-clause-stops
 returns-in-Err-clause-stops g c = λ rows t h each. rw c.fault.ensures
     (kept_stop _ _ rows c.args.line.now _ _ _ _ (c.in-Err.ensures.judged rows h.count h.kept)
     c.requires.going h.lines.holds h.count each)
+
+pub returns-in-Ok-clause-moves : goal.returns-in-Ok-clause-moves
+returns-in-Ok-clause-moves g c = λ last.
+    rw (c.enter.ensures.row, c.enter.ensures.stage, c.enter.ensures.rows, c.enter.ensures.taken)
+    (c.in-Ok.ensures.moves last)
