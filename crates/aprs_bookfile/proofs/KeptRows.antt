@@ -25,7 +25,7 @@ use Rattle.aprs_bookfile.specs.declared.version.Version.{Version}
 use Rattle.aprs_bookfile.proofs.HeldLines.{nothing_held, nothing_lean}
 use Rattle.aprs_bookfile.proofs.Standing.{ended_fault, ended_stands, next_line}
 
-last_pushed : (rows : List Row) (x : Row) → last_or None (rows ++ x ∷ []) ≡ Some x
+pub last_pushed : (rows : List Row) (x : Row) → last_or None (rows ++ x ∷ []) ≡ Some x
 last_pushed [] x = refl
 last_pushed (y ∷ []) x = refl
 last_pushed (y ∷ z ∷ rows) x = last_pushed (z ∷ rows) x

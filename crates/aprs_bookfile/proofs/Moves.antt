@@ -1,5 +1,5 @@
 -- Which row is taken, once a line more was read.
-use Rattle.aprs_bookfile.proofs.Common.{◌≡◌, ◌≢◌, ◌∙◌, ℕ, Bool, true, false, List, [], ◌∷◌, None, Result, Ok, Option, Err, refl, sym, ap, subst, Counted, Row}
+use Rattle.aprs_bookfile.proofs.Common.{◌≡◌, ◌≢◌, ◌∙◌, ℕ, true, false, List, None, Result, Ok, Option, Err, refl, sym, ap, subst, Counted, Row}
 use Rattle.std.specs.Prelude.{IfOk, MatchResult}
 use Rattle.std.specs.List.{last_or}
 use Rattle.aprs_bookfile.specs.Reader.{is_done}

@@ -17,6 +17,7 @@ pub mod Walking
 pub mod Worked
 pub mod Texts
 pub mod Lacking
+pub mod LastRows
 pub mod Newing
 pub mod NewTexts
 pub mod Frames

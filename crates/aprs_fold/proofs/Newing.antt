@@ -7,13 +7,14 @@ use Rattle.aprs_transmissions.specs.Together.{book_together}
 use Rattle.aprs_bookfile.specs.declared.row_stream.RowStream.{RowStream}
 use Rattle.aprs_fold.specs.Folding.{rows_put, IsFolding, TakesNext}
 use Rattle.aprs_fold.specs.NewRows.{last_of, new_rows}
-use Rattle.aprs_fold.proofs.Beside.{last_decides, last_more, new_same}
+use Rattle.aprs_fold.specs.LastRow.{row_taken_at}
+use Rattle.aprs_fold.proofs.Beside.{last_decides, new_same}
 use Rattle.aprs_fold.proofs.NewRows.{is_new, new_are_sound}
 use Rattle.aprs_fold.proofs.Steps.{begins, ends_as_book}
 use Rattle.aprs_fold.specs.Fold.{IsWhole}
 use Rattle.aprs_fold.specs.Fronts.{row_at, IsFirst}
 use Rattle.aprs_fold.specs.Inputs.{all_of, AreBooks, IsRefused}
-use Rattle.aprs_fold.specs.Known.{is_first, known_after, FailsNew, IsAhead, IsNewing, PutsNew, PutsNews}
+use Rattle.aprs_fold.specs.Known.{FailsNew, IsAhead, IsNewing, PutsNew, PutsNews}
 use Rattle.aprs_fold.specs.News.{first_of, news_of_sources, LeavesNews}
 use Rattle.aprs_fold.specs.Range.{rows_of_sources}
 use Rattle.aprs_fold.specs.Streams.{fronts_of, taken_at, AreReading, GoesOn, IsOfInputs}
@@ -24,7 +25,7 @@ use Rattle.aprs_fold.proofs.Kept.{in_within, sound_within, within_both}
 use Rattle.aprs_fold.proofs.Lacking.{across, below_upto, front_some, sound_front}
 use Rattle.aprs_fold.proofs.Points.{by_memory, by_write, Point}
 use Rattle.aprs_fold.proofs.Puttings.{HasPut-fails, HasPut-none, HasPut-then}
-use Rattle.aprs_fold.proofs.Reading.{AreReading-ended, AreReading-front, AreReading-in}
+use Rattle.aprs_fold.proofs.Reading.{AreReading-ended, AreReading-front, AreReading-in, AreReading-known}
 use Rattle.aprs_fold.proofs.Streamed.{memory_own}
 use Rattle.aprs_fold.proofs.Walking.{all_none, count_put, front_sound, len_there, none_before, parts_by, read_sound, some_millis, sound_whole, takes_here, takes_there}
 
@@ -48,6 +49,11 @@ leaves_begun contents gap o is_gap fault is =
 
 -- ---- the rows of the first input
 
+-- whether it is the number of the first input
+abbrev is_first : ℕ → Bool
+is_first zero = true
+is_first (suc index) = false
+
 -- the row that is taken of it, if one is
 abbrev taken_of : Bool → Row → List Row
 taken_of true x = x ∷ []
@@ -61,11 +67,6 @@ first_none : {A : Type 0} (streams : List (RowStream A))
     → first_of (map (λ (s : RowStream A). []) streams) ≡ []
 first_none [] = refl
 first_none (s ∷ streams) = refl
-
-last_taken : (old : List Row) (b : Bool) (x : Row)
-    → last_of (old ++ taken_of b x) ≡ known_after b (last_of old) x
-last_taken old true x = last_more old x
-last_taken old false x = ap last_of (append-nil old)
 
 module _ {R A : Type 0} (remaining : R → Option (List ℕ)) (limit gap : ℕ) where
   first_taken : (i : ℕ) (first now : List (Counted R)) (streams : List (RowStream A))
@@ -109,7 +110,7 @@ module _ {R W A : Type 0} {remaining : R → Option (List ℕ)} {contents : W �
     {limit gap : ℕ} {range : SourceRange} {first : List (Counted R)} {begun : Outlet W} where
   pub news_begins : (now : List (Counted R)) (streams : List (RowStream A))
       → AreReading remaining limit gap first now streams (map (λ (s : RowStream A). []) streams)
-      → IsNewing remaining contents limit gap range first now streams begun begun [] [] 0
+      → IsNewing remaining contents limit gap range first now streams begun begun [] 0
   news_begins now streams h = record {
     taken = map (λ (s : RowStream A). []) streams;
     final = [];
@@ -117,7 +118,6 @@ module _ {R W A : Type 0} {remaining : R → Option (List ℕ)} {contents : W �
     folding = subst (λ (l : List Row). IsFolding (millis_of gap) l (fronts_of streams) [] [])
         (sym (all_none streams)) (begins (millis_of gap) (fronts_of streams));
     sound = subst (Sound (millis_of gap)) (sym (first_none streams)) (sound_none (millis_of gap));
-    keeps = sym (ap last_of (first_none streams));
     written = [];
     are_new = λ rest sound ahead. refl;
     put = HasPut-none begun;
@@ -126,14 +126,18 @@ module _ {R W A : Type 0} {remaining : R → Option (List ℕ)} {contents : W �
 
   -- at a point of the walk
   module _ (is_gap : IsGap gap) {now : List (Counted R)} {streams : List (RowStream A)}
-      {out : Outlet W} {last known : List Row} {count : ℕ}
-      (w : IsNewing remaining contents limit gap range first now streams begun out last known count)
+      {out : Outlet W} {last : List Row} {count : ℕ}
+      (w : IsNewing remaining contents limit gap range first now streams begun out last count)
     where
       pub point : Point remaining limit gap first now streams
       point = record { taken = w.taken; reading = w.reading }
 
       abbrev old : List Row
       old = first_of w.taken
+
+      -- the row that was taken last of the first input
+      abbrev known : List Row
+      known = row_taken_at streams zero
 
       all_sound : Sound (millis_of gap) (w.final ++ last)
       all_sound =
@@ -165,7 +169,9 @@ module _ {R W A : Type 0} {remaining : R → Option (List ℕ)} {contents : W �
           (fronts_of streams) w.final last old rest z w.folding (first_in w.taken) sound
           (own z here) (λ y k. below z y here k)) in
           (λ i. w.are_new rest sound ahead i
-          ++ (ap (λ (l : List Row). new_rows l kept) w.keeps ∙ sym decided) i)
+          ++ (ap (λ (l : List Row). new_rows l kept)
+          (AreReading-known remaining limit gap first now streams w.taken w.reading)
+          ∙ sym decided) i)
           ∙ sym (filter-append (is_new (old ++ rest)) (rows_of_sources range w.final) kept)
           ∙ ap (new_rows (old ++ rest)) (sym (within_both range w.final rows))
 
@@ -292,18 +298,15 @@ module _ {R W A : Type 0} {remaining : R → Option (List ℕ)} {contents : W �
               ∙ ap (λ (l : List Row). new_rows l
               (rows_of_sources range (w.final ++ rows_put closed last))) (sym whole)
 
-          pub news_on : (kept : List Row) (n : ℕ)
-              → kept ≡ known_after (is_first i) known f.row → n ≡ cond wrote (count + 1) count
-              → IsNewing remaining contents limit gap range first after others begun next new kept n
-          news_on kept n e m = record {
+          pub news_on : (n : ℕ) → n ≡ cond wrote (count + 1) count
+              → IsNewing remaining contents limit gap range first after others begun next new n
+          news_on n m = record {
             taken = taken;
             final = w.final ++ rows_put closed last;
             reading = reading;
             folding = takes_there remaining limit gap first now streams w.taken w.reading i f w.final
                 last w.folding sound closed new takes after others reading goes;
             sound = first_sound remaining limit gap i first now streams w.taken w.reading w.sound;
-            keeps = e ∙ ap (λ (l : List Row). known_after (is_first i) l f.row) w.keeps
-                ∙ sym (last_taken old (is_first i) f.row) ∙ ap last_of (sym old_on);
             written = w.written ++ more;
             are_new = step_new;
             put = put_all;

@@ -1,31 +1,15 @@
 -- The last row is put where it is new.
-use Rattle.aprs_fold.proofs.Common.{◌≡◌, ℕ, zero, suc, Bool, true, false, List, [], ◌∷◌, Option, Result, Ok, Err, IfOk, OnOk, inl, inr, refl, sym, subst, Row, Puts}
-use Rattle.std.specs.Prelude.{nat_eq}
-use Rattle.std.proofs.lemmas.Bool.{eq-eqb, eqb-true}
+use Rattle.aprs_fold.proofs.Common.{◌≡◌, ℕ, Bool, true, false, List, [], ◌∷◌, Option, Result, Ok, Err, IfOk, OnOk, inl, inr, refl, sym, subst, Row, Puts}
 use Rattle.aprs_io.specs.declared.outlet.Outlet.{Outlet}
 use Rattle.aprs_rows.specs.OpenRow.{JoinsOrNot}
 use Rattle.aprs_fold.specs.NewRows.{new_rows}
-use Rattle.aprs_fold.specs.Known.{is_first, FailsNew, PutsNew, TakesNew}
+use Rattle.aprs_fold.specs.Known.{FailsNew, PutsNew, TakesNew}
 use Rattle.aprs_fold.specs.Range.{rows_of_sources}
 use Rattle.aprs_fold.specs.Taking.{lines_of_rows, FailsPut, HasPut, IsThere}
 use Rattle.aprs_fold.specs.declared.fault.FoldFault.{FoldFault}
 use Rattle.aprs_fold.specs.declared.fault.FoldFault.TheVariants.{Memory, Write}
 use Rattle.aprs_fold.specs.declared.range.SourceRange.{SourceRange}
 use Rattle.aprs_fold.proofs.Puttings.{HasPut-none}
-
--- the first input has the number 0
-pub first_is : (index : ℕ) → nat_eq index 0 ≡ is_first index
-first_is zero = eq-eqb zero zero refl
-first_is (suc i) = by (nat_eq (suc i) 0) refl where
-  by : (b : Bool) → nat_eq (suc i) 0 ≡ b → nat_eq (suc i) 0 ≡ false
-  by true e = absurd (let f = eqb-true (suc i) 0 e in cc)
-  by false e = e
-
--- what is said of a result in two clauses
-pub both_ok : {X E : Type 0} (r : Result X E) (P : Type 0) (Q S : X → Type 0) → OnOk r P
-    → IfOk r Q → (P → (x : X) → Q x → S x) → IfOk r S
-both_ok (Ok x) P Q S p q f = f p x q
-both_ok (Err e) P Q S p q f = tt
 
 module _ {W : Type 0} (contents : W → Option (List ℕ)) (range : SourceRange) (known : List Row)
   where
@@ -77,12 +61,6 @@ module _ {W : Type 0} (contents : W → Option (List ℕ)) (range : SourceRange)
       }
       takes_joined false e joins = absurd (cc)
 
-      -- it was taken, but there is no memory to keep it
-      pub fails_kept : (wrote : Bool) (fault : FoldFault) → fault ≡ Memory
-          → TakesNew contents range wrote gap known o p old x mid
-          → FailsNew contents range fault known o p old
-      fails_kept wrote fault is t = inl (is, (t.closed, wrote, t.puts))
-
       module _ (joined : Bool) (far : joined ≡ false) (joins : JoinsOrNot joined gap old x mid)
         where
           stays : JoinsOrNot false gap old x mid
@@ -119,8 +97,3 @@ module _ {W : Type 0} (contents : W → Option (List ℕ)) (range : SourceRange)
                 puts = put_old;
               }
             ]
-
-            -- but there is no memory for the next one
-            pub fails_closed : (fault : FoldFault) → fault ≡ Memory
-                → FailsNew contents range fault known o p old
-            fails_closed fault is = inl (is, (true, wrote, put_old))

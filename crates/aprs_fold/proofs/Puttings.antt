@@ -1,5 +1,5 @@
 -- Lines that were put, one after another.
-use Rattle.aprs_fold.proofs.Common.{◌≡◌, ◌∙◌, ◌<◌, ℕ, length, Bool, true, false, cond, List, [], ◌∷◌, ◌++◌, Option, Result, Ok, Err, inl, inr, refl, sym, ap, subst, append-nil, flat_map-append, in_either, Puts, Puts-is, Puts-none, Puts-then, Row}
+use Rattle.aprs_fold.proofs.Common.{◌≡◌, ◌∙◌, ◌<◌, ℕ, length, Bool, true, false, cond, List, [], ◌∷◌, ◌++◌, Option, Result, Ok, Err, IfOk, OnOk, inl, inr, refl, sym, ap, subst, append-nil, flat_map-append, in_either, Puts, Puts-is, Puts-none, Puts-then, Row}
 use Rattle.aprs_io.specs.Device.{Sends, SendsAllBut}
 use Rattle.aprs_io.specs.Outlet.{held_of, writer_loan_of, writer_of}
 use Rattle.aprs_io.specs.declared.outlet.Outlet.{Outlet}
@@ -11,9 +11,15 @@ use Rattle.aprs_rows.specs.OpenRow.{JoinsOrNot}
 use Rattle.aprs_fold.specs.Range.{rows_of_sources}
 use Rattle.aprs_fold.specs.Taking.{lines_of_rows, FailsPut, FailsTaking, HasPut, IsThere, Takes}
 use Rattle.aprs_fold.specs.declared.fault.FoldFault.{FoldFault}
-use Rattle.aprs_fold.specs.declared.fault.FoldFault.TheVariants.{Memory, Write}
+use Rattle.aprs_fold.specs.declared.fault.FoldFault.TheVariants.{Write}
 use Rattle.aprs_fold.specs.declared.range.SourceRange.{SourceRange}
 use Rattle.aprs_fold.proofs.Kept.{is_row_within}
+
+-- what is said of a result in two clauses
+pub both_ok : {X E : Type 0} (r : Result X E) (P : Type 0) (Q S : X → Type 0) → OnOk r P
+    → IfOk r Q → (P → (x : X) → Q x → S x) → IfOk r S
+both_ok (Ok x) P Q S p q f = f p x q
+both_ok (Err e) P Q S p q f = tt
 
 module _ {W : Type 0} {contents : W → Option (List ℕ)} where
   -- which error it would be is not said
@@ -136,16 +142,6 @@ module _ {W : Type 0} (contents : W → Option (List ℕ)) (range : SourceRange)
             is_there = there_old;
           }
         ]
-
-    -- there is no memory for the next one
-    pub closing_fails : (fault : FoldFault) → fault ≡ Memory
-        → FailsTaking contents range gap fault o p old x
-    closing_fails fault is =
-        subst (λ (f : FoldFault). FailsTaking contents range gap f o p old x) (sym is)
-        (elim stays.1 [
-          | inl none ↦ (false, put_none none, tt)
-          | inr own ↦ (true, put_old, (own.0, own.1, own.2, refl))
-        ])
 
 -- the row is within the range, or not
 pub one_within : (range : SourceRange) (x : Row) (last : List Row) → last ≡ x ∷ []

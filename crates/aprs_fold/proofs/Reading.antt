@@ -10,8 +10,8 @@ use Rattle.aprs_bookfile.specs.Asking.{AsksAt}
 use Rattle.aprs_bookfile.specs.BookAnswers.{ReadsBook}
 use Rattle.aprs_bookfile.specs.Reader.{gap_in, HoldsIn}
 use Rattle.aprs_bookfile.specs.Reading.{Got, IsAnswered}
-use Rattle.aprs_bookfile.specs.RowReader.{row_at_stage, version_in, KeepsVersion}
-use Rattle.aprs_bookfile.specs.RowStream.{front_of, gap_of_stream, GetsOne, HasGot, HoldsTo, is_ended, IsFaultyAfter, stream_ahead, stream_size}
+use Rattle.aprs_bookfile.specs.RowReader.{list_of_row, row_at_stage, version_in, KeepsVersion}
+use Rattle.aprs_bookfile.specs.RowStream.{front_of, gap_of_stream, GetsOne, HasGot, HoldsTo, is_ended, IsFaultyAfter, stream_ahead, stream_size, taken_of, TakesLast}
 use Rattle.aprs_bookfile.specs.Text.{IsBookRows}
 use Rattle.aprs_bookfile.specs.Version.{gap_of}
 use Rattle.aprs_bookfile.specs.declared.fault.BookCause.{BookCause}
@@ -22,10 +22,20 @@ use Rattle.aprs_bookfile.specs.declared.stage.Stage.TheVariants.{Header, Rows, D
 use Rattle.aprs_bookfile.specs.declared.row_stream.RowStream.{RowStream}
 use Rattle.aprs_bookfile.specs.declared.version.Version.{Version}
 use Rattle.aprs_bookfile.proofs.BookRows.{rows_sound}
+use Rattle.aprs_bookfile.proofs.KeptRows.{last_pushed}
 use Rattle.aprs_fold.specs.Fronts.{row_at}
+use Rattle.aprs_fold.specs.LastRow.{row_taken_at}
+use Rattle.aprs_fold.specs.NewRows.{last_of}
+use Rattle.aprs_fold.specs.News.{first_of}
 use Rattle.aprs_fold.specs.Inputs.{all_of, AreAsked, AreBooks, IsAsked, IsRefused}
 use Rattle.aprs_fold.specs.Streams.{ahead_of, ahead_of_all, fronts_of, taken_at, AreReading, IsReading, IsReadyAt}
 use Rattle.aprs_fold.specs.declared.fault.FoldFault.TheVariants.{Input}
+
+-- the list of the last row
+last_is : (rows : List Row) → last_of rows ≡ list_of_row (last_or None rows)
+last_is [] = refl
+last_is (x ∷ []) = refl
+last_is (x ∷ y ∷ rows) = last_is (y ∷ rows)
 
 -- ---- one input
 
@@ -139,15 +149,19 @@ module _ {R A : Type 0} (remaining : R → Option (List ℕ)) (limit gap : ℕ) 
       → HasGot remaining limit head first n s rows
       → GetsOne remaining limit head first m r rows)
       → stream_size r ≤ stream_size s → KeepsVersion s.reader.stage r.reader.stage
+      → r.reader.keeping ≡ s.reader.keeping → TakesLast remaining n s r
       → IsReading remaining limit gap f n s t
       → IsReading remaining limit gap f m r (t ++ front_of s)
-  reads_on f n m s r t going step size keeps h = elim h.gets [
+  reads_on f n m s r t going step size keeps same takes h = elim h.gets [
     | inl one ↦ record {
       gap_is = gap_stays s.reader.stage r.reader.stage s.reader.rows one.0 (sym one.1) keeps
           ∙ h.gap_is;
       size = (let old = h.size in omega (arith, old, size));
       gets = subst (λ (l : List Row). GetsOne remaining limit [] f m r (t ++ l)) (sym one.1)
           (step limit [] f (t ++ one.0 ∷ []) one.3);
+      keeps = same ∙ h.keeps;
+      lends = subst (λ (l : List Row). taken_of r ≡ list_of_row (last_or None (t ++ l)))
+          (sym one.1) (takes limit [] f (t ++ one.0 ∷ []) h.keeps one.3);
     }
     | inr none ↦ absurd (let e : true ≡ false = sym none.1 ∙ going in cc)
   ]
@@ -184,35 +198,28 @@ module _ {R A : Type 0} (remaining : R → Option (List ℕ)) (limit gap : ℕ) 
     -- the row in front of one is taken, and it is read on
     pub AreReading-on : (i : ℕ) (first now : List (Counted R)) (streams : List (RowStream A))
         (taken : List (List Row)) → slice_get now i ≡ Some n → slice_get streams i ≡ Some s
-        → is_ended s ≡ false
-        → ((limit : ℕ) (head : List ℕ) (first : Counted R) (rows : List Row)
-        → HasGot remaining limit head first n s rows
-        → GetsOne remaining limit head first m r rows)
-        → stream_size r ≤ stream_size s → KeepsVersion s.reader.stage r.reader.stage
+        → ((f : Counted R) (t : List Row) → IsReading remaining limit gap f n s t
+        → IsReading remaining limit gap f m r (t ++ front_of s))
         → AreReading remaining limit gap first now streams taken
         → AreReading remaining limit gap first (set now i m) (set streams i r)
         (taken_at streams i taken)
-    AreReading-on i [] [] [] [] here there going step size keeps h = absurd (cc)
-    AreReading-on i [] [] [] (t ∷ taken) here there going step size keeps h = absurd h
-    AreReading-on i [] [] (a ∷ streams) taken here there going step size keeps h = absurd h
-    AreReading-on i [] (b ∷ now) streams taken here there going step size keeps h = absurd h
-    AreReading-on i (f ∷ first) [] streams taken here there going step size keeps h = absurd h
-    AreReading-on i (f ∷ first) (b ∷ now) [] taken here there going step size keeps h = absurd h
-    AreReading-on i (f ∷ first) (b ∷ now) (a ∷ streams) [] here there going step size keeps h =
-        absurd h
-    AreReading-on zero (f ∷ first) (b ∷ now) (a ∷ streams) (t ∷ taken) here there going step size
-        keeps h =
+    AreReading-on i [] [] [] [] here there on h = absurd (cc)
+    AreReading-on i [] [] [] (t ∷ taken) here there on h = absurd h
+    AreReading-on i [] [] (a ∷ streams) taken here there on h = absurd h
+    AreReading-on i [] (b ∷ now) streams taken here there on h = absurd h
+    AreReading-on i (f ∷ first) [] streams taken here there on h = absurd h
+    AreReading-on i (f ∷ first) (b ∷ now) [] taken here there on h = absurd h
+    AreReading-on i (f ∷ first) (b ∷ now) (a ∷ streams) [] here there on h = absurd h
+    AreReading-on zero (f ∷ first) (b ∷ now) (a ∷ streams) (t ∷ taken) here there on h =
         let one : n ≡ b = cc in
         let two : s ≡ a = cc in (
           subst (λ (w : RowStream A). IsReading remaining limit gap f m r (t ++ front_of w)) two
-              (reads_on f n m s r t going step size keeps
-              (subst (λ (w : RowStream A). IsReading remaining limit gap f n w t) (sym two)
+              (on f t (subst (λ (w : RowStream A). IsReading remaining limit gap f n w t) (sym two)
               (subst (λ (w : Counted R). IsReading remaining limit gap f w a t) (sym one) h.0))),
           h.1,
         )
-    AreReading-on (suc i) (f ∷ first) (b ∷ now) (a ∷ streams) (t ∷ taken) here there going step size
-        keeps h =
-        (h.0, AreReading-on i first now streams taken here there going step size keeps h.1)
+    AreReading-on (suc i) (f ∷ first) (b ∷ now) (a ∷ streams) (t ∷ taken) here there on h =
+        (h.0, AreReading-on i first now streams taken here there on h.1)
 
     -- it is faulty
     pub AreReading-faulty : (fault : BookFault) (i : ℕ) (first now : List (Counted R))
@@ -279,6 +286,53 @@ module _ {R A : Type 0} (remaining : R → Option (List ℕ)) (limit gap : ℕ) 
       ]
   AreReading-after (suc i) (f ∷ first) (b ∷ now) (a ∷ streams) (t ∷ taken) m r x y is h k next =
       AreReading-after i first now streams taken m r x y is h.1 k.1 next
+
+  -- then that stream lends it
+  pub AreReading-lends : (i : ℕ) (first before now : List (Counted R))
+      (streams others : List (RowStream A)) (taken : List (List Row)) (x : Row)
+      → row_at streams i ≡ Some x → AreReading remaining limit gap first before streams taken
+      → AreReading remaining limit gap first now others (taken_at streams i taken)
+      → row_taken_at others i ≡ x ∷ []
+  AreReading-lends i [] [] now [] others [] x is h k = absurd (cc)
+  AreReading-lends i [] [] now [] others (t ∷ taken) x is h k = absurd h
+  AreReading-lends i [] [] now (a ∷ streams) others taken x is h k = absurd h
+  AreReading-lends i [] (b ∷ before) now streams others taken x is h k = absurd h
+  AreReading-lends i (f ∷ first) [] now streams others taken x is h k = absurd h
+  AreReading-lends i (f ∷ first) (b ∷ before) now [] others taken x is h k = absurd h
+  AreReading-lends i (f ∷ first) (b ∷ before) now (a ∷ streams) others [] x is h k = absurd h
+  AreReading-lends zero (f ∷ first) (b ∷ before) [] (a ∷ streams) others (t ∷ taken) x is h k =
+      absurd k
+  AreReading-lends zero (f ∷ first) (b ∷ before) (n ∷ now) (a ∷ streams) [] (t ∷ taken) x is h k =
+      absurd k
+  AreReading-lends zero (f ∷ first) (b ∷ before) (n ∷ now) (a ∷ streams) (r ∷ others) (t ∷ taken)
+      x is h k = elim h.0.gets [
+        | inl one ↦
+            let same : one.0 ≡ x = (let e : Some one.0 ≡ Some x
+            = ap (last_or None) (sym one.1) ∙ is in cc) in
+            k.0.lends ∙ ap (λ (l : List Row). list_of_row (last_or None (t ++ l))) one.1
+            ∙ ap list_of_row (last_pushed t one.0) ∙ ap (λ (z : Row). z ∷ []) same
+        | inr none ↦ absurd (let e : None ≡ Some x = ap (last_or None) (sym none.0) ∙ is in cc)
+      ]
+  AreReading-lends (suc i) (f ∷ first) (b ∷ before) [] (a ∷ streams) others (t ∷ taken) x is h k =
+      absurd k
+  AreReading-lends (suc i) (f ∷ first) (b ∷ before) (n ∷ now) (a ∷ streams) [] (t ∷ taken) x is h k
+      = absurd k
+  AreReading-lends (suc i) (f ∷ first) (b ∷ before) (n ∷ now) (a ∷ streams) (r ∷ others)
+      (t ∷ taken) x is h k = AreReading-lends i first before now streams others taken x is h.1 k.1
+
+  -- the first one lends the last row that was taken of it
+  pub AreReading-known : (first now : List (Counted R)) (streams : List (RowStream A))
+      (taken : List (List Row)) → AreReading remaining limit gap first now streams taken
+      → row_taken_at streams zero ≡ last_of (first_of taken)
+  AreReading-known [] [] [] [] h = refl
+  AreReading-known [] [] [] (t ∷ taken) h = absurd h
+  AreReading-known [] [] (s ∷ streams) taken h = absurd h
+  AreReading-known [] (n ∷ now) streams taken h = absurd h
+  AreReading-known (f ∷ first) [] streams taken h = absurd h
+  AreReading-known (f ∷ first) (n ∷ now) [] taken h = absurd h
+  AreReading-known (f ∷ first) (n ∷ now) (s ∷ streams) [] h = absurd h
+  AreReading-known (f ∷ first) (n ∷ now) (s ∷ streams) (t ∷ taken) h =
+      h.0.lends ∙ sym (last_is t)
 
   -- where no row is in front, all have ended
   pub AreReading-ended : (first now : List (Counted R)) (streams : List (RowStream A))

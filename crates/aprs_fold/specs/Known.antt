@@ -1,6 +1,6 @@
 -- The first of the inputs has a known book, and what of the fold is new to it. No public clause
 -- cites this module.
-use Rattle.std.specs.Prelude.{◌≡◌, ◌⊎◌, ℕ, zero, suc, Bool, true, false, List, [], ◌∷◌, ◌++◌, length, Option}
+use Rattle.std.specs.Prelude.{◌≡◌, ◌⊎◌, ℕ, Bool, List, ◌++◌, length, Option}
 use Rattle.aprs_io.specs.declared.device.Counted.{Counted}
 use Rattle.aprs_io.specs.declared.outlet.Outlet.{Outlet}
 use Rattle.aprs_transmissions.specs.Gap.{millis_of}
@@ -10,7 +10,7 @@ use Rattle.aprs_transmissions.specs.Row.{Row, row_cmp}
 use Rattle.aprs_transmissions.specs.Sound.{Sound}
 use Rattle.aprs_bookfile.specs.declared.row_stream.RowStream.{RowStream}
 use Rattle.aprs_fold.specs.Folding.{rows_put, IsFolding, TakesNext}
-use Rattle.aprs_fold.specs.NewRows.{last_of, new_rows}
+use Rattle.aprs_fold.specs.NewRows.{new_rows}
 use Rattle.aprs_fold.specs.Fold.{IsWhole}
 use Rattle.aprs_fold.specs.Inputs.{all_of}
 use Rattle.aprs_fold.specs.News.{first_of}
@@ -22,17 +22,6 @@ use Rattle.aprs_fold.specs.declared.fault.FoldFault.TheVariants.{Memory}
 use Rattle.aprs_fold.specs.declared.range.SourceRange.{SourceRange}
 
 -- ---- a row that is taken
-
--- Whether it is the number of the first input.
-abbrev pub is_first : ℕ → Bool
-is_first zero = true
-is_first (suc index) = false
-
--- The row of the known book that was last taken, after x was taken: of that book where the boolean
--- is true.
-abbrev pub known_after : Bool → List Row → Row → List Row
-known_after true known x = x ∷ []
-known_after false known x = known
 
 -- The line of the last row was put where its source is within the range and the known row is
 -- another; `wrote` says whether it was.
@@ -63,19 +52,18 @@ FailsNew contents range fault known old new last =
 abbrev pub IsAhead : List Row → Row → Type 0
 IsAhead front y = (x : Row) × (x ∈ front) × IsUpTo row_cmp x y
 
--- So far these rows were taken of each input, and these are final; the last one is still open, and
--- `known` was last taken of the first input. What was put are those of the final rows that are new
--- to that and within the range, whatever rows it still has.
+-- So far these rows were taken of each input, and these are final; the last one is still open. What
+-- was put are those of the final rows that are new to the first input and within the range, whatever
+-- rows it still has.
 pub record IsNewing {R W A : Type 0} (remaining : R → Option (List ℕ))
     (contents : W → Option (List ℕ)) (limit gap : ℕ) (range : SourceRange)
     (first now : List (Counted R)) (streams : List (RowStream A)) (begun out : Outlet W)
-    (last known : List Row) (count : ℕ) : Type 0 where
+    (last : List Row) (count : ℕ) : Type 0 where
   pub taken : List (List Row)
   pub final : List Row
   pub reading : AreReading remaining limit gap first now streams taken
   pub folding : IsFolding (millis_of gap) (all_of taken) (fronts_of streams) final last
   pub sound : Sound (millis_of gap) (first_of taken)
-  pub keeps : known ≡ last_of (first_of taken)
   pub written : List Row
   pub are_new : (rest : List Row) → Sound (millis_of gap) (first_of taken ++ rest)
       → ((y : Row) → y ∈ rest → IsAhead (fronts_of streams) y)

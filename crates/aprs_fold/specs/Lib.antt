@@ -8,6 +8,7 @@ pub mod Examples
 pub mod Fold
 pub mod Fronts
 pub mod Known
+pub mod LastRow
 pub mod News
 pub mod Range
 pub mod Streams

@@ -1,23 +1,26 @@
 -- The inputs of a fold, each of which is read a row at a time. No public clause cites this module.
-use Rattle.std.specs.Prelude.{◌≡◌, ◌≢◌, ℕ, ◌≤◌, ◌+◌, ◌⊎◌, zero, suc, if◌then◌else◌, false, List, [], ◌∷◌, ◌++◌, length, Option, Some}
-use Rattle.std.specs.List.{flat_map}
+use Rattle.std.specs.Prelude.{◌≡◌, ◌≢◌, ℕ, ◌≤◌, ◌+◌, ◌⊎◌, zero, suc, if◌then◌else◌, false, List, [], ◌∷◌, ◌++◌, length, Option, None, Some}
+use Rattle.std.specs.List.{flat_map, last_or}
 use Rattle.aprs_io.specs.declared.device.Counted.{Counted}
 use Rattle.aprs_transmissions.specs.Order.{IsUpTo}
 use Rattle.aprs_transmissions.specs.Row.{Row, row_cmp}
-use Rattle.aprs_bookfile.specs.RowReader.{most_stream}
-use Rattle.aprs_bookfile.specs.RowStream.{front_of, gap_of_stream, GetsOne, is_ended, stream_ahead, stream_size}
+use Rattle.aprs_bookfile.specs.RowReader.{list_of_row, most_stream}
+use Rattle.aprs_bookfile.specs.RowStream.{front_of, gap_of_stream, GetsOne, is_ended, stream_ahead, stream_size, taken_of}
+use Rattle.aprs_bookfile.specs.declared.row_reader.Keeping.TheVariants.{Last}
 use Rattle.aprs_bookfile.specs.declared.row_stream.RowStream.{RowStream}
 use Rattle.aprs_fold.specs.Fronts.{row_at}
 use Rattle.aprs_fold.specs.declared.fault.FoldFault.{FoldFault}
 use Rattle.aprs_fold.specs.declared.fault.FoldFault.TheVariants.{Write}
 
 -- Of an input that was `first` these rows were taken, and the next is in front; or they are all,
--- and the input has ended.
+-- and the input has ended. The stream lends the one that was taken last.
 pub record IsReading {R A : Type 0} (remaining : R → Option (List ℕ)) (limit gap : ℕ)
     (first now : Counted R) (stream : RowStream A) (taken : List Row) : Type 0 where
   pub gap_is : gap_of_stream stream ≡ gap
   pub size : stream_size stream ≤ most_stream
   pub gets : GetsOne remaining limit [] first now stream taken
+  pub keeps : stream.reader.keeping ≡ Last
+  pub lends : taken_of stream ≡ list_of_row (last_or None taken)
 
 -- Each input is read as `IsReading` says: these rows were taken of it, and the next is in front.
 abbrev pub AreReading : {R A : Type 0} → (R → Option (List ℕ)) → ℕ → ℕ → List (Counted R)

@@ -21,8 +21,8 @@ use std::io::Read;
 /// Reads the inputs to their ends, side by side as `fold_books` does, and judges each as the whole
 /// text of a book of this gap, of at most `limit` bytes. It joins no rows, and nothing is written:
 /// so it ends as `fold_books` does, but never with `Write`, and with `Memory` only where a growth
-/// for an input was refused. Memory is taken for each input (16 KiB, its longest line and its
-/// longest row). Requires a limit of at most `MAX_BOOK`.
+/// for an input was refused. Memory is taken for each input (16 KiB, its longest line three times
+/// and its longest row twice). Requires a limit of at most `MAX_BOOK`.
 pub fn check_books<R: Read, A: Allocator + Copy>(
     alloc: A,
     limit: u64,

@@ -26,10 +26,11 @@ ghost use Rattle.aprs_fold.specs.Inputs.{AreAsked, AreBooks, IsRefused};
 ghost use Rattle.aprs_fold.specs.Range.{book_of_sources};
 
 use crate::fault::FoldFault;
+use crate::last_row::LastRow;
 use crate::opening::{advance, open_all};
 use crate::range::SourceRange;
 use crate::taking::{count_after, has_line, put_last, take_front};
-use aprs_bookfile::{OpenLine, WrittenRow, end_line_and_lf, header_line};
+use aprs_bookfile::{WrittenRow, end_line_and_lf, header_line};
 use aprs_io::{Counted, Outlet, WriteFault};
 use aprs_rows::Tournament;
 use aprs_transmissions::Gap;
@@ -42,8 +43,8 @@ pub const MAX_BOOK: u64 = 9_223_372_036_854_775_807;
 /// Writes, in version 3, the text of the book of all inputs. These have to be book files of this
 /// gap, in any version, of at most `limit` bytes each. Of the book's rows the text has those whose
 /// sources are within the range. The inputs are read side by side to their ends, and the rows are
-/// written as they come. Memory is taken for each input (a piece of 16 KiB, its longest line twice
-/// and its longest row) and for one row more with its line, whatever the number of rows. Requires a
+/// written as they come. Memory is taken for each input (a piece of 16 KiB, its longest line three
+/// times and its longest row twice) and for one row more, whatever the number of rows. Requires a
 /// limit of at most `MAX_BOOK` (9,223,372,036,854,775,807). The header is sent before an input is
 /// read.
 /// Where an input is at fault or an allocation fails, the header and a part of the rows' lines were
@@ -147,7 +148,7 @@ fn put_rows<R: Read, W: Write, A: Allocator + Copy>(
     let streams = opened.as_mut_slice();
     let mut tournament = Tournament::new(alloc, streams)?;
     let mut room = WrittenRow::new();
-    let mut last = OpenLine::new(alloc);
+    let mut last = LastRow::new(alloc);
     let mut count = 0;
     while let Some(index) = tournament.first(streams) {
         let wrote = take_front(gap, range, streams, index, &mut last, out, &mut room)?;
@@ -155,7 +156,7 @@ fn put_rows<R: Read, W: Write, A: Allocator + Copy>(
         advance(index, streams, inputs)?;
         tournament.play_again(streams, index);
     }
-    let all = count_after(count, has_line(range, &last))?;
-    put_last(range, &last, out, &mut room)?;
+    let all = count_after(count, has_line(range, last.row(streams)))?;
+    put_last(range, last.row(streams), out, &mut room)?;
     Ok(all)
 }

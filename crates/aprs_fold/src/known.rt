@@ -1,17 +1,18 @@
 //! Whether a row is the one of a known book that was last taken.
 ghost use Rattle.std.specs.Prelude.{◌≡◌, false, true};
 ghost use Rattle.aprs_transmissions.specs.Lists.{◌∈◌};
+ghost use Rattle.aprs_bookfile.specs.RowReader.{list_of_row};
 
-use aprs_rows::{OpenRow, RowView};
-use std::alloc::Allocator;
+use aprs_bookfile::LentRow;
+use aprs_rows::RowView;
 
-/// Whether the row is the one that is kept.
-pub(crate) fn is_kept<A: Allocator + Copy>(row: &RowView<'_>, kept: &OpenRow<A>) -> bool
-    ensures same { result ≡ true → row.now ∈ kept.now }
-    ensures other { result ≡ false → row.now ∈ kept.now → ⊥ }
+/// Whether the row is the known one, if there is one.
+pub(crate) fn is_known(row: &RowView<'_>, known: Option<LentRow<'_>>) -> bool
+    ensures same { result ≡ true → row.now ∈ list_of_row known.entry }
+    ensures other { result ≡ false → row.now ∈ list_of_row known.entry → ⊥ }
 {
-    match kept.row() {
-        Some(other) => is_same(row, &other),
+    match known {
+        Some(other) => is_same(row, other.row()),
         None => false,
     }
 }

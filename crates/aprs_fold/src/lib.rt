@@ -7,6 +7,7 @@ mod examples;
 mod fault;
 mod fold;
 mod known;
+mod last_row;
 mod laws;
 mod news;
 mod opening;

@@ -24,21 +24,22 @@ ghost use Rattle.aprs_fold.specs.News as Spec;
 
 use crate::fault::FoldFault;
 use crate::fold::put_header;
+use crate::last_row::LastRow;
 use crate::opening::{advance, open_all};
 use crate::range::SourceRange;
 use crate::taking::count_after;
-use crate::taking_new::{put_last_new, take_front_new};
-use aprs_bookfile::{OpenLine, WrittenRow, end_line_and_lf};
+use crate::taking_new::{put_open_new, take_front_new};
+use aprs_bookfile::{WrittenRow, end_line_and_lf};
 use aprs_io::{Counted, Outlet};
-use aprs_rows::{OpenRow, Tournament};
+use aprs_rows::Tournament;
 use aprs_transmissions::Gap;
 use std::alloc::Allocator;
 use std::io::{Read, Write};
 
 /// Writes of the book that `fold_books` writes those rows that the first input hasn't as they are:
 /// a whole book's text in version 3. Whoever has taken the first input's book needs nothing else of
-/// the inputs. It is read with the others, and only once, in memory for one row more. Of no inputs
-/// nothing is new. Requires a limit of at most `MAX_BOOK`.
+/// the inputs. It is read with the others, and only once, and takes no memory beside theirs. Of no
+/// inputs nothing is new. Requires a limit of at most `MAX_BOOK`.
 /// Where an input is at fault or an allocation fails, the header and a part of the rows' lines were
 /// written. They are no book's text, since the last line isn't there. At `Write` a prefix of a
 /// book's text was written.
@@ -126,18 +127,15 @@ fn put_news<R: Read, W: Write, A: Allocator + Copy>(
     let streams = opened.as_mut_slice();
     let mut tournament = Tournament::new(alloc, streams)?;
     let mut room = WrittenRow::new();
-    let mut last = OpenLine::new(alloc);
-    let mut known = OpenRow::new(alloc);
+    let mut last = LastRow::new(alloc);
     let mut count = 0;
     while let Some(index) = tournament.first(streams) {
-        let wrote = take_front_new(
-            gap, range, streams, index, &mut last, &mut known, out, &mut room,
-        )?;
+        let wrote = take_front_new(gap, range, streams, index, &mut last, out, &mut room)?;
         count = count_after(count, wrote)?;
         advance(index, streams, inputs)?;
         tournament.play_again(streams, index);
     }
-    let some = put_last_new(range, &last, &known, out, &mut room)?;
+    let some = put_open_new(range, streams, &last, out, &mut room)?;
     let all = count_after(count, some)?;
     Ok(all)
 }

@@ -1,10 +1,10 @@
 //! Worked examples of the steps of a fold, and near misses. The functions do nothing.
-ghost use Rattle.std.specs.Prelude.{◌≡◌, [], ◌∷◌, ◌++◌, Some, codes, false, true};
+ghost use Rattle.std.specs.Prelude.{◌≡◌, [], ◌∷◌, ◌++◌, None, Some, codes, false, true};
 ghost use Rattle.aprs_transmissions.specs.Examples.{early_row, late_row};
 ghost use Rattle.aprs_fold.specs.Examples.{uncalled};
 ghost use Rattle.aprs_fold.specs.Folding.{rows_put};
 ghost use Rattle.aprs_fold.specs.Inputs.{IsOneRefused};
-ghost use Rattle.aprs_fold.specs.Known.{is_first, known_after};
+ghost use Rattle.aprs_fold.specs.LastRow.{IsOfStream, lent_or, taken_or};
 ghost use Rattle.aprs_fold.specs.Lines.{IsLineAt, ReadsLine};
 ghost use Rattle.aprs_fold.specs.Streams.{IsOfInputs, ahead_of_all};
 ghost use Rattle.aprs_fold.specs.Taking.{ClosesFor, IsThere};
@@ -22,12 +22,14 @@ pub fn closed_rows_are_put()
     ensures misses_closed { ClosesFor true 30000 [] early_row → ⊥ }
 {}
 
-/// The known book is that of the first input alone.
-pub fn first_inputs_are_known()
-    ensures first { is_first 0 ≡ true }
-    ensures misses_second { is_first 1 ≡ false }
-    ensures of_the_first { known_after true [] early_row ≡ early_row ∷ [] }
-    ensures of_another { known_after false (early_row ∷ []) late_row ≡ early_row ∷ [] }
+/// A row that was taken is lent by its stream, and a joined one by none.
+pub fn taken_rows_are_lent()
+    ensures taken { taken_or (Some 1) (early_row ∷ []) late_row ≡ late_row ∷ [] }
+    ensures joined { taken_or None (early_row ∷ []) late_row ≡ early_row ∷ [] }
+    ensures not_lent { lent_or {A = Unit {0}} None (early_row ∷ []) [] ≡ early_row ∷ [] }
+    ensures no_stream { lent_or {A = Unit {0}} (Some 0) (early_row ∷ []) [] ≡ [] }
+    ensures of_the_stream { IsOfStream 1 (Some 1) }
+    ensures misses_other { IsOfStream 1 (Some 0) → ⊥ }
 {}
 
 /// A refusal of the output is no fault of an input.

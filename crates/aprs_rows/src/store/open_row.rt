@@ -127,7 +127,14 @@ impl<A: Allocator + Copy> OpenRow<A> {
         if !are_near(gap, own.first(), own, next) {
             return Ok(false);
         }
-        join_into(self.alloc, gap, &mut self.spare, &mut self.names, own.copy(), next)?;
+        join_into(
+            self.alloc,
+            gap,
+            &mut self.spare,
+            &mut self.names,
+            own.copy(),
+            next,
+        )?;
         swap(&mut self.row, &mut self.spare);
         Ok(true)
     }

@@ -3,7 +3,10 @@ use Rattle.aprs_bookfile.specs.declared.row_stream.RowStream.{RowStream}
 use Rattle.aprs_fold.specs.Streams.{AreReading}
 use Rattle.aprs_fold.specs.declared.fault.FoldFault.TheVariants.{Memory}
 use Rattle.aprs_fold.proofs.Begun.{ChangesAt-none}
+use Rattle.aprs_fold.specs.LastRow.{last_row_after}
 use Rattle.aprs_fold.proofs.InErr.{in_err}
+use Rattle.aprs_fold.proofs.LastRows.{lent_again}
+use Rattle.aprs_fold.proofs.Reading.{AreReading-lends}
 use Rattle.aprs_rows.proofs.Matches.{opened_again}
 use Rattle.aprs_fold.specs.Fronts.{in_front}
 use Rattle.aprs_fold.proofs.Points.{asked, by_memory, by_write, is_ready, is_within}
@@ -24,7 +27,7 @@ loop-index-init g c = record {
   walks = subst (λ (last : List Row). Walking g.R.Read.remaining g.W.Write.contents c.args.limit
       c.args.gap c.args.range.now c.args.inputs.now c.open_all.new.inputs
       c.as_mut_slice-streams.result.now c.args.out.now c.args.out.now last 0)
-      (sym c.new-last.ensures) (walk_begins _ _ (subst (λ (l : List (RowStream _)). AreReading
+      (sym (c.new-last.ensures c.as_mut_slice-streams.result.now)) (walk_begins _ _ (subst (λ (l : List (RowStream _)). AreReading
       g.R.Read.remaining c.args.limit c.args.gap c.args.inputs.now c.open_all.new.inputs l
       (map (λ (s : RowStream _). []) l)) (sym c.as_mut_slice-streams.ensures.value)
       (AreOpened-all g.R.Read.remaining c.args.limit c.args.gap c.args.inputs.now
@@ -62,8 +65,8 @@ returns-in_err-count-clause-left g c =
     let f = c.in-Some.ensures.some in
     let t = c.in_ok-wrote.ensures.takes f.row f.is in
     in_err _ _ c.from_residual-in_err-count.ensures.1
-    (leaves_taken c.requires.gap c.loop-index.invariant.walks f t.1.closed
-    c.take_front.new.out t.0 t.1.puts c.take_front.new.last t.1.takes _
+    (leaves_taken c.requires.gap c.loop-index.invariant.walks f t.2.closed
+    c.take_front.new.out t.0 t.2.puts (last_row_after c.take_front.new.last f.row) t.2.takes _
     (memory_own _ c.in_err-count.ensures.fails) c.loop-index.inputs
     (ChangesAt-none c.in-Some.index c.loop-index.inputs))
 
@@ -89,8 +92,8 @@ returns-in_err-advance-clause-left g c =
     let f = c.in-Some.ensures.some in
     let t = c.in_ok-wrote.ensures.takes f.row f.is in
     in_err _ _ c.from_residual-in_err-advance.ensures.1
-    (leaves_taken c.requires.gap c.loop-index.invariant.walks f t.1.closed
-    c.take_front.new.out t.0 t.1.puts c.take_front.new.last t.1.takes _
+    (leaves_taken c.requires.gap c.loop-index.invariant.walks f t.2.closed
+    c.take_front.new.out t.0 t.2.puts (last_row_after c.take_front.new.last f.row) t.2.takes _
     c.in_err-advance.ensures.own c.advance.new.inputs c.in_err-advance.ensures.changes)
 
 pub returns-in_err-advance-clause-asks : goal.returns-in_err-advance-clause-asks
@@ -115,11 +118,20 @@ loop-index-preserved g c =
     let t = c.in_ok-wrote.ensures.takes f.row f.is in
     let one = c.in_ok-advance.ensures.one c.args.limit c.args.gap c.args.inputs.now
     c.loop-index.invariant.walks.taken c.loop-index.invariant.walks.reading in
+    let last = c.take_front.new.last in
+    let lent = AreReading-lends g.R.Read.remaining c.args.limit c.args.gap c.in-Some.index
+    c.args.inputs.now c.loop-index.inputs c.advance.new.inputs c.loop-index.streams
+    c.advance.new.streams c.loop-index.invariant.walks.taken f.row f.is
+    c.loop-index.invariant.walks.reading one.0 in
     record {
-      walks = walks_on c.requires.gap c.loop-index.invariant.walks f t.1.closed
-          c.take_front.new.out t.0 t.1.puts c.take_front.new.last c.advance.new.inputs
-          c.advance.new.streams c.in_ok-wrote.wrote c.in_ok-count.count t.1.takes t.1.is_there
-          c.in_ok-count.ensures.counts one.0 one.1;
+      walks = subst (λ (l : List Row). Walking g.R.Read.remaining g.W.Write.contents c.args.limit
+          c.args.gap c.args.range.now c.args.inputs.now c.advance.new.inputs
+          c.advance.new.streams c.args.out.now c.take_front.new.out l c.in_ok-count.count)
+          (lent_again c.in-Some.index last.stream last.joined f.row c.advance.new.streams t.1 lent)
+          (walks_on c.requires.gap c.loop-index.invariant.walks f t.2.closed
+          c.take_front.new.out t.0 t.2.puts (last_row_after last f.row) c.advance.new.inputs
+          c.advance.new.streams c.in_ok-wrote.wrote c.in_ok-count.count t.2.takes t.2.is_there
+          c.in_ok-count.ensures.counts one.0 one.1);
       played = c.play_again.ensures;
     }
 
@@ -148,7 +160,7 @@ pub returns-in_err-put_last-clause-left : goal.returns-in_err-put_last-clause-le
 returns-in_err-put_last-clause-left g c =
     in_err _ _ c.from_residual-in_err-put_last.ensures.1
     (leaves_write c.requires.gap c.loop-index.invariant.walks _
-    c.put_last.new.out c.in_err-put_last.ensures.fails)
+    c.put_last.new.out (rw c.row-2.ensures at c.in_err-put_last.ensures.fails))
 
 pub returns-in_err-put_last-clause-asks : goal.returns-in_err-put_last-clause-asks
 returns-in_err-put_last-clause-asks g c = asked (point c.requires.gap c.loop-index.invariant.walks)
@@ -156,7 +168,8 @@ returns-in_err-put_last-clause-asks g c = asked (point c.requires.gap c.loop-ind
 pub returns-clause-folds : goal.returns-clause-folds
 returns-clause-folds g c = walk_ends c.requires.gap c.loop-index.invariant.walks
     c.in_default.ensures.none c.has_line.result c.put_last.new.out c.in_ok-all.all
-    c.has_line.ensures c.in_ok-put_last.ensures.puts c.in_ok-all.ensures.counts
+    (rw c.row.ensures at c.has_line.ensures) (rw c.row-2.ensures at c.in_ok-put_last.ensures.puts)
+    c.in_ok-all.ensures.counts
 
 pub returns-clause-asks : goal.returns-clause-asks
 returns-clause-asks g c = asked (point c.requires.gap c.loop-index.invariant.walks)

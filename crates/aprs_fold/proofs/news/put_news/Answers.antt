@@ -3,7 +3,10 @@ use Rattle.aprs_bookfile.specs.declared.row_stream.RowStream.{RowStream}
 use Rattle.aprs_fold.specs.Known.{IsNewing}
 use Rattle.aprs_fold.specs.Streams.{AreReading}
 use Rattle.aprs_fold.specs.declared.fault.FoldFault.TheVariants.{Memory}
+use Rattle.aprs_fold.specs.LastRow.{last_row_after}
 use Rattle.aprs_fold.proofs.InErr.{in_err}
+use Rattle.aprs_fold.proofs.LastRows.{lent_again}
+use Rattle.aprs_fold.proofs.Reading.{AreReading-lends}
 use Rattle.aprs_rows.proofs.Matches.{opened_again}
 use Rattle.aprs_fold.specs.Fronts.{in_front}
 use Rattle.aprs_fold.proofs.Newing.{fails_left, fails_refused, leaves_begun, leaves_put, news_begins, news_end, news_on, point}
@@ -31,13 +34,11 @@ loop-index-init g c =
     c.args.gap c.args.inputs.now c.open_all.new.inputs c.in_ok-opened.opened.items
     c.in_ok-opened.ensures.all c.in_ok-opened.ensures.reads) in
     record {
-      newing = subst (λ (known : List Row). IsNewing g.R.Read.remaining g.W.Write.contents
+      newing = subst (λ (last : List Row). IsNewing g.R.Read.remaining g.W.Write.contents
           c.args.limit c.args.gap c.args.range.now c.args.inputs.now c.open_all.new.inputs
-          c.as_mut_slice-streams.result.now c.args.out.now c.args.out.now c.new-last.result known
-          0) (sym c.new-known.ensures) (subst (λ (last : List Row). IsNewing g.R.Read.remaining
-          g.W.Write.contents c.args.limit c.args.gap c.args.range.now c.args.inputs.now
-          c.open_all.new.inputs c.as_mut_slice-streams.result.now c.args.out.now c.args.out.now
-          last [] 0) (sym c.new-last.ensures) (news_begins _ _ reading));
+          c.as_mut_slice-streams.result.now c.args.out.now c.args.out.now last 0)
+          (sym (c.new-last.ensures c.as_mut_slice-streams.result.now))
+          (news_begins _ _ reading);
       played = c.in_ok-tournament.ensures.played;
     }
 
@@ -119,17 +120,26 @@ loop-index-preserved g c =
     let t = c.in_ok-wrote.ensures.takes f.row f.is in
     let one = c.in_ok-advance.ensures.one c.args.limit c.args.gap c.args.inputs.now
     c.loop-index.invariant.newing.taken c.loop-index.invariant.newing.reading in
+    let last = c.take_front_new.new.last in
+    let lent = AreReading-lends g.R.Read.remaining c.args.limit c.args.gap c.in-Some.index
+    c.args.inputs.now c.loop-index.inputs c.advance.new.inputs c.loop-index.streams
+    c.advance.new.streams c.loop-index.invariant.newing.taken f.row f.is
+    c.loop-index.invariant.newing.reading one.0 in
     record {
-      newing = news_on c.requires.gap c.loop-index.invariant.newing t.2.closed t.2.puts f t.0
-          c.take_front_new.new.last t.2.takes c.advance.new.inputs c.advance.new.streams one.0
-          one.1 c.take_front_new.new.known c.in_ok-count.count t.1 c.in_ok-count.ensures.counts;
+      newing = subst (λ (l : List Row). IsNewing g.R.Read.remaining g.W.Write.contents
+          c.args.limit c.args.gap c.args.range.now c.args.inputs.now c.advance.new.inputs
+          c.advance.new.streams c.args.out.now c.take_front_new.new.out l c.in_ok-count.count)
+          (lent_again c.in-Some.index last.stream last.joined f.row c.advance.new.streams t.1 lent)
+          (news_on c.requires.gap c.loop-index.invariant.newing t.2.closed t.2.puts f t.0
+          (last_row_after last f.row) t.2.takes c.advance.new.inputs c.advance.new.streams one.0
+          one.1 c.in_ok-count.count c.in_ok-count.ensures.counts);
       played = c.play_again.ensures;
     }
 
 pub returns-in_err-some-clause-left : goal.returns-in_err-some-clause-left
 returns-in_err-some-clause-left g c =
     in_err _ _ c.from_residual-in_err-some.ensures.1
-    (fails_left c.requires.gap c.loop-index.invariant.newing _ c.put_last_new.new.out
+    (fails_left c.requires.gap c.loop-index.invariant.newing _ c.put_open_new.new.out
     (inr c.in_err-some.ensures.fails))
 
 pub returns-in_err-some-clause-refuses : goal.returns-in_err-some-clause-refuses
@@ -160,7 +170,7 @@ returns-in_err-all-clause-asks g c =
 
 pub returns-clause-news : goal.returns-clause-news
 returns-clause-news g c = news_end c.requires.gap c.loop-index.invariant.newing
-    c.in_default.ensures.none c.in_ok-some.some c.put_last_new.new.out c.in_ok-all.all
+    c.in_default.ensures.none c.in_ok-some.some c.put_open_new.new.out c.in_ok-all.all
     c.in_ok-some.ensures.puts c.in_ok-all.ensures.counts
 
 pub returns-clause-asks : goal.returns-clause-asks

@@ -1,13 +1,14 @@
 use Rattle.aprs_fold.specs.Known.{IsNewing}
 use Rattle.aprs_rows.specs.Matches.{IsPlayed}
 use Rattle.aprs_fold.specs.Fronts.{in_front}
+use Rattle.aprs_fold.specs.LastRow.{last_row}
 use Rattle.aprs_fold.specs.Streams.{ahead_of_all}
 use Rattle.aprs_fold.proofs.news.put_news.Given as goal
 
 abbrev pub invariant-loop-index : goal.invariant-loop-index
 invariant-loop-index g l = record {
   newing : IsNewing g.R.Read.remaining g.W.Write.contents l.limit l.gap l.range l.fn.inputs
-      l.inputs l.streams l.fn.out l.out l.last l.known l.count;
+      l.inputs l.streams l.fn.out l.out (last_row l.last l.streams) l.count;
   played : IsPlayed in_front l.streams l.tournament;
 }
 

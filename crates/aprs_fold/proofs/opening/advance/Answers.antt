@@ -1,7 +1,7 @@
 use Rattle.aprs_fold.proofs.Common.{get_or, inl, inr, slice_get-get_or}
 use Rattle.std.proofs.lemmas.List.{length-set}
 use Rattle.aprs_fold.proofs.Begun.{ChangesAt-set}
-use Rattle.aprs_fold.proofs.Reading.{ahead_less, ready_is, row_at-other, row_at-set, AreReading-after, AreReading-faulty, AreReading-on}
+use Rattle.aprs_fold.proofs.Reading.{ahead_less, reads_on, ready_is, row_at-other, row_at-set, AreReading-after, AreReading-faulty, AreReading-on}
 use Rattle.aprs_fold.proofs.opening.advance.Goals as goal
 
 pub advance-requires-clause-few : goal.advance-requires-clause-few
@@ -30,8 +30,11 @@ returns-in-Ok-clause-one g c =
     let going = (ready_is i s (get_or s i d) there c.requires.ready).1 in
     λ limit gap first taken h.
     let reading = AreReading-on g.R.Read.remaining limit gap (get_or n i e) c.advance.new.source
-    (get_or s i d) c.advance.new.self i first n s taken here there going
-    (λ l head f rows k. c.in-Ok.ensures.one l head f rows k) c.in-Ok.ensures.size c.in-Ok.ensures.version h in (
+    (get_or s i d) c.advance.new.self i first n s taken here there
+    (λ f t k. reads_on g.R.Read.remaining limit gap f (get_or n i e) c.advance.new.source
+    (get_or s i d) c.advance.new.self t going
+    (λ l head first rows got. c.in-Ok.ensures.one l head first rows got) c.in-Ok.ensures.size
+    c.in-Ok.ensures.version c.advance.ensures.keeping c.in-Ok.ensures.taken k) h in (
       reading,
       λ k x y at own. elim (row_at-set s i k c.advance.new.self y own) [
         | inl old ↦ inl old

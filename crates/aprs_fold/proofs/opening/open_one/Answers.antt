@@ -32,6 +32,9 @@ returns-clause-reads g c =
       gap_is = sym c.gap.ensures ∙ same_gap c.gap.result c.args.gap c.if-ne.ensures;
       size = omega (arith, c.in_default.ensures.size, c.in_ok-stream.ensures.size, c.requires);
       gets = c.in_default.ensures.one c.args.limit [] c.args.input.now [] first;
+      keeps = c.advance.ensures.keeping ∙ c.in_ok-stream.ensures.keeping;
+      lends = c.in_default.ensures.taken c.args.limit [] c.args.input.now []
+          c.in_ok-stream.ensures.keeping first;
     }
 
 pub returns-in_err-stream-clause-refuses : goal.returns-in_err-stream-clause-refuses
