@@ -1,7 +1,8 @@
 -- Which reports are equal.
 use Rattle.std.proofs.Common.{◌≡◌, ◌↔◌, ◌&&◌, IsTrue, Bool, true, false, Option, Some, None}
 use Rattle.std.proofs.Common.{List, ℕ, eqb, refl, rules}
-use Rattle.std.specs.Option.{option_eq}
+use Rattle.std.specs.Borrow.{Bor}
+use Rattle.std.specs.Option.{option_eq, option_map}
 use lib.Pointwise.{pointwise}
 use mathlib.Core.Bool.{beq}
 use Rattle.std.specs.Cmp.Rules.{comparing}
@@ -40,6 +41,14 @@ flags a b = search (comparing, rules)
 texts : (a b : List ℕ) → IsTrue (pointwise eqb a b) ↔ (a ≡ b)
 texts a b = search (comparing, rules)
 
+-- Equality of byte lists that may be left out, wherever they lie.
+known_texts : (a b : Option (Bor (List ℕ)))
+    → IsTrue (option_eq (λ x y. pointwise eqb x.now y.now) a b)
+    ↔ (option_map (λ x. x.now) a ≡ option_map (λ x. x.now) b)
+known_texts None None = (λ yes. refl, λ same. refl)
+known_texts (Some a) (Some b) = instead (texts a.now b.now) (λ same. cc) (λ same. cc)
+known_texts a b = unequal (λ same. cc)
+
 -- The derived equality of stamps.
 stamps : (a b : Stamp) → IsTrue ((by_stamp.ghosts).eq a b) ↔ (a ≡ b)
 stamps a b = search (comparing, rules)
@@ -74,12 +83,13 @@ equal_says_the_same (Item a b c d e) (Item u v w x y) =
     let placed = both (places c w) (both (symbols d x) (texts e.now y.now)) in
     instead (both (texts a.now u.now) (both (flags b v) placed)) (λ parts. cc)
     (λ same. (cc, (cc, (cc, (cc, cc)))))
-equal_says_the_same (Message a b None) (Message u v None) = search (comparing, rules)
-equal_says_the_same (Message a b None) (Message u v (Some w)) = search (comparing, rules)
-equal_says_the_same (Message a b (Some c)) (Message u v None) = search (comparing, rules)
-equal_says_the_same (Message a b (Some c)) (Message u v (Some w)) = search (comparing, rules)
-equal_says_the_same (Ack a b) (Ack u v) = search (comparing, rules)
-equal_says_the_same (Rej a b) (Rej u v) = search (comparing, rules)
+equal_says_the_same (Message a b c) (Message u v w) =
+    instead (both (texts a.now u.now) (both (texts b.now v.now) (known_texts c w))) (λ parts. cc)
+    (λ same. (cc, (cc, cc)))
+equal_says_the_same (Ack a b) (Ack u v) =
+    instead (both (texts a.now u.now) (texts b.now v.now)) (λ parts. cc) (λ same. (cc, cc))
+equal_says_the_same (Rej a b) (Rej u v) =
+    instead (both (texts a.now u.now) (texts b.now v.now)) (λ parts. cc) (λ same. (cc, cc))
 equal_says_the_same (Status a b) (Status u v) =
     instead (both (known_stamps a u) (texts b.now v.now)) (λ parts. cc) (λ same. (cc, cc))
 equal_says_the_same Raw Raw = search (comparing, rules)
