@@ -1,8 +1,9 @@
-use Rattle.aprs_arguments.proofs.Common.{◌≡◌, ℕ, List, [], None, map, true, false, refl, ap, ◌∙◌, sym, subst, inl, inr, Bor, HasKind, App, err_from_is_err_and, fault_of, is_simple_and_free, takes}
+use Rattle.aprs_arguments.proofs.Common.{◌≡◌, ℕ, List, [], None, Option, Some, Row, Text, map, true, false, refl, ap, ◌∙◌, sym, subst, inl, inr, Bor, HasKind, App, err_from_is_err_and, fault_of, is_simple_and_free, takes}
 use Rattle.clap.specs.declared.builder.value_parser.ValueParser.{ValueParser}
 use Rattle.clap.specs.declared.builder.value_parser.ValueParser.TheVariants as vp
 use Rattle.clap.specs.declared.builder.possible_value.PossibleValue.{PossibleValue}
-use Rattle.aprs_arguments.specs.Arguments.{FailsSo, form_names, program_app}
+use Rattle.aprs_arguments.specs.Arguments.{FailsSo, form_names, inputs_in, program_app, task_of}
+use Rattle.clap.specs.Words.{is_simple, subcommand_of}
 use Rattle.aprs_arguments.proofs.Refusals.{refused}
 use Rattle.aprs_arguments.proofs.arguments.job.Goals as goal
 
@@ -26,6 +27,14 @@ returns-in_err-command-clause-judged c =
 
 free : (p : ValueParser) → is_simple_and_free (program_app p) ≡ true
 free p = refl
+
+simple : (p : ValueParser) → is_simple (program_app p) ≡ true
+simple p = refl
+
+-- what clap finds by the command that was built, it finds by the command as it is defined
+found_by : (arguments : List (List ℕ)) {a b : App} {found : Option (Text × List Row)} → a ≡ b
+    → found ≡ subcommand_of a arguments → found ≡ subcommand_of b arguments
+found_by arguments same is = is ∙ ap (λ a. subcommand_of a arguments) same
 
 pub returns-in-Err-clause-asked : goal.returns-in-Err-clause-asked
 returns-in-Err-clause-asked c =
@@ -65,3 +74,38 @@ returns-clause-judged c =
     let arguments = map (λ (w : Bor (List ℕ)). w.now) c.args.arguments.now in
     let kinds = c.in-Ok.ensures.kinds (ap is_simple_and_free built.2 ∙ free built.0) in
     (built.0, built.1, ap (λ (a : App). fault_of a arguments) (sym built.2) ∙ kinds)
+
+pub returns-in_default-clause-asked : goal.returns-in_default-clause-asked
+returns-in_default-clause-asked c =
+    let built = c.in_ok-command.ensures in
+    let found = found_by (map (λ (w : Bor (List ℕ)). w.now) c.args.arguments.now)
+    built.2 (c.in-Ok.ensures.matches (ap is_simple built.2 ∙ simple built.0)).1 in
+    (built.0, built.1, ap task_of (sym found) ∙ sym c.read_task.ensures ∙ c.in_default.is)
+
+pub returns-in_err-inputs-clause-asked : goal.returns-in_err-inputs-clause-asked
+returns-in_err-inputs-clause-asked c =
+    let built = c.in_ok-command.ensures in
+    let p = err_from_is_err_and c.from_residual-in_err-inputs.result
+    c.from_residual-in_err-inputs.ensures.1 in
+    (built.0, built.1, rw (p.1, p.2) tt)
+
+pub returns-in_err-inputs-clause-judged : goal.returns-in_err-inputs-clause-judged
+returns-in_err-inputs-clause-judged c =
+    let built = c.in_ok-command.ensures in
+    let p = err_from_is_err_and c.from_residual-in_err-inputs.result
+    c.from_residual-in_err-inputs.ensures.1 in
+    (built.0, built.1, rw (p.1, p.2) tt)
+
+pub returns-clause-asked : goal.returns-clause-asked
+returns-clause-asked c =
+    let built = c.in_ok-command.ensures in
+    let found = found_by (map (λ (w : Bor (List ℕ)). w.now) c.args.arguments.now)
+    built.2 (c.in-Ok.ensures.matches (ap is_simple built.2 ∙ simple built.0)).1 in (
+      built.0,
+      built.1,
+      record {
+        task = ap task_of (sym found) ∙ sym c.read_task.ensures ∙ c.in-Some.is
+            ∙ ap Some (sym c.with_inputs.ensures.task);
+        inputs = c.with_inputs.ensures.inputs ∙ c.in_ok-inputs.ensures ∙ ap inputs_in found;
+      },
+    )

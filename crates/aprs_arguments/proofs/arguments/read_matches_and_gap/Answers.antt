@@ -26,6 +26,12 @@ returns-in-Some-clause-gap c =
     sym (ap (λ (l : List Row). chosen_gap l) (c.in-Ok.ensures.ok.2 (and_parts _ _ c.requires).0).0)
     ∙ sym c.read_chosen_gap.ensures ∙ c.in-Some.is
 
+pub returns-in-Some-clause-judged : goal.returns-in-Some-clause-judged
+returns-in-Some-clause-judged c = c.in-Ok.ensures.kinds c.requires
+
+pub returns-clause-judged : goal.returns-clause-judged
+returns-clause-judged c = c.in-Ok.ensures.kinds c.requires
+
 pub returns-clause-refused : goal.returns-clause-refused
 returns-clause-refused c =
     sym (ap (λ (l : List Row). chosen_gap l) (c.in-Ok.ensures.ok.2 (and_parts _ _ c.requires).0).0)

@@ -1,4 +1,4 @@
-use Rattle.aprs_arguments.proofs.Common.{◌≡◌, ◌∙◌, ◌^◌, ◌<◌, ℕ, Bool, true, false, List, Option, None, Some, ap, refl, sym, arith, IsUnsignedIn}
+use Rattle.aprs_arguments.proofs.Common.{◌≡◌, ◌∙◌, ◌^◌, ◌<◌, ℕ, Bool, true, false, List, None, Some, ap, refl, sym, arith, IsUnsignedIn}
 use Rattle.std.proofs.Common.{if◌then◌else◌, leb, leb-true}
 use Rattle.std.proofs.lemmas.Bool.{le-leb}
 use Rattle.std.specs.Str.Parse.{IsNumeral, digits_value, without_leading_plus}

@@ -1,11 +1,12 @@
-use Rattle.aprs_arguments.proofs.Common.{◌≡◌, rules, ap₂, codes, ◌∙◌, IfOk-weaker, app_of, with_rule}
-use Rattle.aprs_arguments.specs.Arguments.{versioned_app}
+use Rattle.aprs_arguments.proofs.Common.{ap, ap₂, ◌∙◌, IfOk-weaker, app_of_fields, with_rule}
+use Rattle.aprs_arguments.proofs.Commands.{versioned}
 use Rattle.aprs_arguments.proofs.table.table_command.Goals as goal
 
 pub returns : goal.returns
 returns c =
-    let named : app_of c.after_long_help.result ≡ versioned_app (codes "aprsbook-table") =
-    search rules in
+    let named = ap app_of_fields c.after_long_help.ensures ∙ ap app_of_fields c.after_help.ensures
+    ∙ ap app_of_fields c.override_usage.ensures ∙ ap app_of_fields c.about.ensures
+    ∙ ap app_of_fields c.version.ensures ∙ ap versioned c.new.ensures.app in
     let with_inputs = c.in_ok-with_inputs.ensures.shape c.inputs_arg-inputs.ensures.local
     ∙ ap₂ with_rule named c.inputs_arg-inputs.ensures.rule in
     let with_gap = c.in_ok-with_gap.ensures.shape c.gap_arg-gap.ensures.local

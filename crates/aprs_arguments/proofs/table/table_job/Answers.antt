@@ -1,5 +1,6 @@
-use Rattle.aprs_arguments.proofs.Common.{◌∙◌, ℕ, List, map, ap, sym, inl, Bor, App, err_from_is_err_and, fault_of}
-use Rattle.aprs_arguments.specs.Arguments.{FailsGathering, FailsTable, table_app}
+use Rattle.aprs_arguments.proofs.Common.{◌∙◌, ℕ, List, map, ap, sym, inl, Bor, App, Row, err_from_is_err_and, fault_of, matches_of}
+use Rattle.aprs_arguments.specs.Arguments.{FailsGathering, FailsTable, chosen_gap, chosen_message_gap, given_inputs, paths_of, table_and_paths, table_app, under_message_gap}
+use Rattle.aprs_arguments.specs.declared.jobs.Table.{Table}
 use Rattle.aprs_arguments.specs.declared.jobs.JobFault.{JobFault}
 use Rattle.aprs_arguments.specs.declared.jobs.JobFault.TheVariants as fault
 use Rattle.aprs_arguments.proofs.table.table_job.Goals as goal
@@ -23,6 +24,24 @@ returns-in_default-clause-judged c =
     let arguments = map (λ (w : Bor (List ℕ)). w.now) c.args.arguments.now in
     ap (λ (a : App). fault_of a arguments) (sym c.in_ok-command.ensures)
     ∙ c.in_ok-matches.ensures.judged
+
+pub returns-clause-asked : goal.returns-clause-asked
+returns-clause-asked c =
+    let arguments = map (λ (w : Bor (List ℕ)). w.now) c.args.arguments.now in
+    let are = c.in_ok-matches.ensures.matches
+    ∙ ap (λ (a : App). matches_of a arguments) c.in_ok-command.ensures in
+    let split = c.in_ok-named.ensures
+    ∙ ap (λ (rows : List Row). table_and_paths (given_inputs rows)) are in
+    record {
+      gap = ap (λ (a : App). chosen_gap (matches_of a arguments)) (sym c.in_ok-command.ensures)
+          ∙ c.in_ok-matches.ensures.gap;
+      message_gap = c.in-Some.message_gap;
+      is_message_gap = ap chosen_message_gap (sym are) ∙ sym c.read_message_gap.ensures
+          ∙ c.in-Some.is;
+      table_and_inputs =
+          ap (λ (t : Table). (t, paths_of c.in_ok-named.inputs.items)) c.with_message_gap-table.ensures
+          ∙ ap (under_message_gap c.in-Some.message_gap) split;
+    }
 
 pub returns-clause-judged : goal.returns-clause-judged
 returns-clause-judged c =

@@ -66,8 +66,8 @@ returns-in_err-write_passed-in-Passed g c =
     c.from_residual-in_err-write_passed-in-Passed.ensures.1 in
     let gives = rw c.if-not-branch.false at c.in_ok-advance.ensures.gives in
     rw (p.1, p.2) (runs_back check_plan c.args.limit g.R.Read.remaining g.W.Write.contents (Err Write)
-    c.args.r.now (lent_device c.advance.new.self) _ c.args.w.now c.write_passed.new.w (search rules)
-    (record {
+    c.args.r.now (lent_device c.advance.new.self) _ c.args.w.now c.write_passed.new.w
+    (search rules depth 1) (record {
       run = Checked-refused _ _ _ _ _ _ _ _ (c.lines.invariant.checked _) _ gives.0 c.args.limit _ _ _ _
           (current_of c.advance.new.self) _
           c.line.ensures (sym c.current.ensures ∙ c.in-Passed.is)
@@ -83,8 +83,8 @@ pub returns-then-not-branch : goal.returns-then-not-branch
 returns-then-not-branch g c =
     let gives = rw c.if-not-branch.true at c.in_ok-advance.ensures.gives in
     runs_back check_plan c.args.limit g.R.Read.remaining g.W.Write.contents (Ok tt)
-    c.args.r.now (lent_device c.advance.new.self) _ c.args.w.now c.write_totals.new.w (search rules)
-    (record {
+    c.args.r.now (lent_device c.advance.new.self) _ c.args.w.now c.write_totals.new.w
+    (search rules depth 1) (record {
       run = Checked-ended _ _ _ _ _ _ _ (c.lines.invariant.checked _) c.args.limit _ _
           (c.new-reader.ensures.whole _) _ gives.2 c.in_ok-write_totals.ensures.sent;
       reads = Calls-then c.lines.invariant.reads
@@ -98,8 +98,8 @@ returns-in_err-write_totals g c =
     c.from_residual-in_err-write_totals.ensures.1 in
     let gives = rw c.if-not-branch.true at c.in_ok-advance.ensures.gives in
     rw (p.1, p.2) (runs_back check_plan c.args.limit g.R.Read.remaining g.W.Write.contents (Err Write)
-    c.args.r.now (lent_device c.advance.new.self) _ c.args.w.now c.write_totals.new.w (search rules)
-    (record {
+    c.args.r.now (lent_device c.advance.new.self) _ c.args.w.now c.write_totals.new.w
+    (search rules depth 1) (record {
       run = Checked-totals_refused _ _ _ _ _ _ _ (c.lines.invariant.checked _) c.args.limit _ _
           (c.new-reader.ensures.whole _) _ gives.2 c.in_err-write_totals.ensures.prefix;
       reads = inr (Calls-then c.lines.invariant.reads
@@ -112,8 +112,8 @@ returns-in_err-advance g c =
     let p = err_from_is_err_and c.from_residual.result c.from_residual.ensures.1 in
     let fault = c.in_err-advance.field-0.0 in
     rw (p.1, p.2) (runs_back check_plan c.args.limit g.R.Read.remaining g.W.Write.contents (Err (Log fault))
-    c.args.r.now (lent_device c.advance.new.self) _ c.args.w.now c.lines.w (search rules)
-    (record {
+    c.args.r.now (lent_device c.advance.new.self) _ c.args.w.now c.lines.w
+    (search rules depth 1) (record {
       run = Checked-fault _ _ _ _ _ _ _ (c.lines.invariant.checked _) c.args.limit _ _
           (c.new-reader.ensures.whole _) fault _ refl
           c.in_err-advance.ensures.gives.2;

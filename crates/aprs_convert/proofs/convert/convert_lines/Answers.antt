@@ -35,7 +35,7 @@ returns-in_err-write_line_as g c =
     let gives = rw c.if-not-branch.false at c.in_ok-advance.ensures.gives in
     rw (p.1, p.2) (planned_back (lines_plan c.args.form.now) c.args.limit g.R.Read.remaining
     g.W.Write.contents (Err Write) c.args.r.now (lent_device c.advance.new.self) _ c.args.w.now c.write_line_as.new.w
-    (search rules) (record {
+    (search rules depth 1) (record {
       run = Ran-refused c.args.form.now _ _ _ c.args.limit _ _ _ _ _
           (current_of c.advance.new.self) _ c.current.ensures (c.lines.invariant.ran _)
           (gives.2 _) c.in_ok-advance.ensures.awaits.0 c.in_ok-advance.ensures.awaits.1
@@ -51,7 +51,7 @@ returns-in_err-advance g c =
     let fault = c.in_err-advance.field-0.0 in
     rw (p.1, p.2) (planned_back (lines_plan c.args.form.now) c.args.limit g.R.Read.remaining
     g.W.Write.contents (Err (Log fault)) c.args.r.now (lent_device c.advance.new.self) _ c.args.w.now c.lines.w
-    (search rules) (record {
+    (search rules depth 1) (record {
       run = Ran-fault c.args.form.now _ _ c.args.limit _ _ _ _ fault _ refl (c.lines.invariant.ran _)
           c.in_err-advance.ensures.gives.2 (c.new-reader.ensures.whole _);
       reads = Calls-then c.lines.invariant.reads
@@ -64,7 +64,7 @@ returns-then-not-branch g c =
     let gives = rw c.if-not-branch.true at c.in_ok-advance.ensures.gives in
     planned_back (lines_plan c.args.form.now) c.args.limit g.R.Read.remaining
     g.W.Write.contents (Ok tt) c.args.r.now (lent_device c.advance.new.self) _ c.args.w.now c.lines.w
-    (search rules) (record {
+    (search rules depth 1) (record {
       run = Ran-ended c.args.form.now _ _ c.args.limit _ _ _ _ (c.lines.invariant.ran _) gives.2
           (c.new-reader.ensures.whole _);
       reads = Calls-then c.lines.invariant.reads
