@@ -52,7 +52,7 @@ impl<A: Allocator> Model for Tournament<A> {
 
 impl<A: Allocator + Copy> Tournament<A> {
     /// The tournament of these streams, with each match played. Takes memory for their number
-    /// alone.
+    /// alone, or fails with `Memory`.
     pub fn new<T: HasFront>(alloc: A, streams: &[T]) -> Result<Tournament<A>, Memory>
         ensures played { IfOk result (Spec.IsPlayed T.front streams.now) }
         ensures some { OnErr result (streams.now ≢ []) }
@@ -63,7 +63,8 @@ impl<A: Allocator + Copy> Tournament<A> {
         Ok(Tournament { winners })
     }
 
-    /// The number of the stream whose row comes first of all, or `None` where none has a row.
+    /// The number of the stream whose row comes first of all, or `None` where none has a row. Takes
+    /// no memory.
     pub fn first<T: HasFront>(&self, streams: &[T]) -> Option<usize>
         requires { Spec.IsPlayed T.front streams.now self.now }
         ensures some { IfSome result (ComesFirst T.front streams.now) }
@@ -80,7 +81,8 @@ impl<A: Allocator + Copy> Tournament<A> {
         }
     }
 
-    /// Plays again the matches of the stream of this number, whose row is another than before.
+    /// Plays again the matches of the stream of this number, whose row is another than before. Takes
+    /// no memory.
     pub fn play_again<T: HasFront>(&mut self, streams: &[T], index: usize)
         requires there { index < length streams.now }
         requires played { Spec.IsPlayedBut T.front streams.now self.old
