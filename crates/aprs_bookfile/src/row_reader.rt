@@ -141,9 +141,9 @@ impl<A: Allocator + Copy> RowReader<A> {
         }
     }
 
-    /// The row that was read before the one that is lent, with its line where that is kept; once the
-    /// last line was read, the last row. `None` where there is none, or where each row is kept and
-    /// the last line wasn't read. After a fault it may be any row, or `None`.
+    /// The row that was read before the one that is lent, with its line where that is kept. Once
+    /// the last line was read, it is the last row. `None` where there is none, or where each row is
+    /// kept and the last line wasn't read. After a fault it may be any row, or `None`.
     pub fn taken(&self) -> Option<LentRow<'_>>
         ensures some { IfSome result (λ x. row_taken self.now ≡ x ∷ []) }
         ensures none { IfNone result (row_taken self.now ≡ []) }
@@ -455,8 +455,8 @@ fn names_of<'r>(row: &Option<RowView<'r>>) -> &'r [u8]
 }
 
 /// Keeps a row, whose line in this form is `line`: after the others where each is kept, and else
-/// in the place of the last, which goes to `taken`. After `Memory` the rows are as before where each
-/// is kept, and else any.
+/// in the place of the last, which goes to `taken`. After `Memory` the rows are as before where
+/// each is kept, and else any.
 fn keep<A: Allocator + Copy>(
     keeping: Keeping,
     rows: &mut KeptRows<A>,

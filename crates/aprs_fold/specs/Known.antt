@@ -53,8 +53,8 @@ abbrev pub IsAhead : List Row → Row → Type 0
 IsAhead front y = (x : Row) × (x ∈ front) × IsUpTo row_cmp x y
 
 -- So far these rows were taken of each input, and these are final; the last one is still open. What
--- was put are those of the final rows that are new to the first input and within the range, whatever
--- rows it still has.
+-- was put are those of the final rows that are new to the first input and within the range,
+-- whatever rows it still has.
 pub record IsNewing {R W A : Type 0} (remaining : R → Option (List ℕ))
     (contents : W → Option (List ℕ)) (limit gap : ℕ) (range : SourceRange)
     (first now : List (Counted R)) (streams : List (RowStream A)) (begun out : Outlet W)

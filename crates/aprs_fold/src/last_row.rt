@@ -3,8 +3,8 @@
 //! Words of the contracts here:
 //! - `last_row`: the row that was taken last, or none. `row_taken_at`: that of the stream of this
 //!   number.
-//! - `last_row_after`: the row that was taken last, once this one was taken and its stream is read on.
-//!   `IsOfStream`: if a stream lends it, that is the one of this number.
+//! - `last_row_after`: the row that was taken last, once this one was taken and its stream is read
+//!   on. `IsOfStream`: if a stream lends it, that is the one of this number.
 //! - A row is sound by itself (`IsSoundRow`) if its first moment isn't after its last, its
 //!   receivers strictly ascend, and that of its greatest reception is among them, the last of them
 //!   where both moments are equal.

@@ -6,8 +6,8 @@
 //!   where both moments are equal.
 //! - `IsShort`: the names of a row's receivers, with commas between, have fewer than 4,294,967,296
 //!   bytes.
-//! - `last_row`: the row that was taken last. It is still open: later rows may join it. A next row that is near joins it. Any
-//!   other closes it, so that its line is put, and takes its place.
+//! - `last_row`: the row that was taken last. It is still open: later rows may join it. A next row
+//!   that is near joins it. Any other closes it, so that its line is put, and takes its place.
 //! - `Takes`: the next row was taken so. `wrote` says whether the last row's line was put, which is
 //!   only where its source is within the range.
 //! - `HasPut`: the lines of these rows were put. `IsThere`: there is one such row if the boolean is

@@ -139,7 +139,8 @@ fn put_new<W: Write>(
     out: &mut Outlet<'_, W>,
     room: &mut WrittenRow,
 ) -> Result<bool, FoldFault>
-    ensures wrote { IfOk result (λ wrote. IsThere wrote (new_rows (list_of_row known.entry) (row.now ∷ []))) }
+    ensures wrote { IfOk result (λ wrote.
+        IsThere wrote (new_rows (list_of_row known.entry) (row.now ∷ []))) }
     ensures puts { OnOk result (HasPut W.contents out.old out.new
         (new_rows (list_of_row known.entry) (row.now ∷ []))) }
     ensures fails { IfErr result (λ fault. FailsPut W.contents fault out.old out.new

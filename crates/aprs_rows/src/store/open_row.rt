@@ -109,10 +109,10 @@ impl<A: Allocator + Copy> OpenRow<A> {
         Ok(true)
     }
 
-    /// Whether the next row in order is near to `own`, which lies elsewhere: then the row of both is
-    /// put in the place of what is here, and otherwise nothing changes. Requires of both rows what
-    /// `join` does of the next. `Memory` also where the joined row's names would have more bytes.
-    /// After `Memory` there may be any row, or none.
+    /// Whether the next row in order is near to `own`, which lies elsewhere: then the row of both
+    /// is put in the place of what is here, and otherwise nothing changes. Requires of both rows
+    /// what `join` does of the next. `Memory` also where the joined row's names would have more
+    /// bytes. After `Memory` there may be any row, or none.
     pub fn put_joined(
         &mut self,
         gap: Gap,

@@ -81,8 +81,8 @@ impl<A: Allocator + Copy> Tournament<A> {
         }
     }
 
-    /// Plays again the matches of the stream of this number, whose row is another than before. Takes
-    /// no memory.
+    /// Plays again the matches of the stream of this number, whose row is another than before.
+    /// Takes no memory.
     pub fn play_again<T: HasFront>(&mut self, streams: &[T], index: usize)
         requires there { index < length streams.now }
         requires played { Spec.IsPlayedBut T.front streams.now self.old
