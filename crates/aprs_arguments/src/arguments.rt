@@ -1,6 +1,6 @@
 //! The arguments of the command line.
-ghost use Rattle.std.specs.Prelude.{◌≡◌, ◌≢◌, ◌⊎◌, option_map, IfErr, IfOk, Some, map, true, false};
-ghost use Rattle.clap.specs.Words.{app_of, first_of, found_of, is_simple, is_simple_and_free, kind_of, matches_of, rows_of, rule_of, subcommand_rows_of};
+ghost use Rattle.std.specs.Prelude.{◌≡◌, ◌≢◌, ◌⊎◌, option_map, IfErr, IfOk, Ok, Some, map, true, false};
+ghost use Rattle.clap.specs.Words.{app_of, first_of, found_of, is_simple, is_simple_and_free, kind_of, matches_of, rows_of, rule_of, subcommand_rows_of, with_subcommand};
 ghost use Rattle.clap.specs.declared.error.kind.ErrorKind.TheVariants.{OutOfMemory};
 ghost use Rattle.clap.specs.declared.builder.command.Command.TheViews.{out-Command};
 ghost use Rattle.clap.specs.declared.builder.value_parser.ValueParser.{ValueParser};
@@ -244,6 +244,19 @@ fn top_command<'a>(alloc: Global) -> Command<'a>
         .after_long_help(help::EXAMPLES)
 }
 
+/// The program's command with this command added, once that is made. `AllocError` where an
+/// allocation failed, in one or the other.
+fn with_command<'a>(
+    program: Command<'a>,
+    made: Result<Command<'a>, AllocError>,
+) -> Result<Command<'a>, AllocError>
+    requires { IfOk made (λ c. (out-Command c).has_globals ≡ false) }
+    ensures { IfOk result (λ c. (added : Command) × (made.entry ≡ Ok added)
+        × (app_of c ≡ with_subcommand (app_of program.entry) (app_of added).top)) }
+{
+    program.subcommand(made?)
+}
+
 /// The program's command with all its commands, where FORM of `convert` takes the names `forms`.
 /// `AllocError` where an allocation failed. Each command is added before the next is made, since
 /// each that is held would have to be given back where memory is refused.
@@ -252,16 +265,16 @@ fn program<'a>(alloc: Global, forms: &'a [PossibleValue<'a>]) -> Result<Command<
     ensures { IfOk result (λ c. (p : ValueParser) × Spec.IsForms p
         × (app_of c ≡ Spec.program_app p)) }
 {
-    let convert = convert_command(alloc, forms)?;
-    let with_convert = top_command(alloc).subcommand(convert)?;
-    let check = check_command(alloc)?;
-    let with_check = with_convert.subcommand(check)?;
-    let merge = gathering_command(alloc, "merge", help::MERGE)?;
-    let with_merge = with_check.subcommand(merge)?;
-    let show = gathering_command(alloc, "show", help::SHOW)?;
-    let with_show = with_merge.subcommand(show)?;
-    let widen = widen_command(alloc)?;
-    with_show.subcommand(widen)
+    let convert = convert_command(alloc, forms);
+    let with_convert = with_command(top_command(alloc), convert)?;
+    let check = check_command(alloc);
+    let with_check = with_command(with_convert, check)?;
+    let merge = gathering_command(alloc, "merge", help::MERGE);
+    let with_merge = with_command(with_check, merge)?;
+    let show = gathering_command(alloc, "show", help::SHOW);
+    let with_show = with_command(with_merge, show)?;
+    let widen = widen_command(alloc);
+    with_command(with_show, widen)
 }
 
 /// The fault for an error of clap: `Memory` where an allocation failed, and else this error.

@@ -21,8 +21,10 @@ pub fn history_job(alloc: Global, arguments: &[&str]) -> Result<HistoryJob, JobF
     ensures judged { Spec.JudgesArguments Spec.history_app (map (λ a. a.now) arguments.now)
         result }
 {
-    let mut command = history_command(alloc)?;
-    let (matches, gap) = read_matches_and_gap(&mut command, arguments)?;
+    let (matches, gap) = {
+        let mut command = history_command(alloc)?;
+        read_matches_and_gap(&mut command, arguments)?
+    };
     let inputs = read_given_inputs(alloc, &matches)?;
     Ok(HistoryJob { gap, inputs })
 }

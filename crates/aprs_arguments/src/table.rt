@@ -27,8 +27,10 @@ pub fn table_job(alloc: Global, arguments: &[&str]) -> Result<TableJob, JobFault
     ensures judged { Spec.JudgesArguments Spec.table_app (map (λ a. a.now) arguments.now)
         result }
 {
-    let mut command = table_command(alloc)?;
-    let (matches, gap) = read_matches_and_gap(&mut command, arguments)?;
+    let (matches, gap) = {
+        let mut command = table_command(alloc)?;
+        read_matches_and_gap(&mut command, arguments)?
+    };
     let Some(message_gap) = read_message_gap(&matches) else {
         return Err(JobFault::Options);
     };

@@ -138,10 +138,8 @@ fn is_refused(alloc: Global, run: Run, units: usize) -> Result<bool, Fail> {
 fn folds_write_a_part_where_memory_is_refused(rt: HostRuntime) -> Result<(), Fail> {
     for run in [Run::Fold, Run::News] {
         let mut refused = 0usize;
-        for units in 0..1024usize {
-            if is_refused(rt.alloc(), run, units)? {
-                refused = refused.saturating_add(1);
-            }
+        while refused < 1024 && is_refused(rt.alloc(), run, refused)? {
+            refused = refused.saturating_add(1);
         }
         assert!(rt; refused > 512 && refused < 1024);
     }

@@ -204,13 +204,16 @@ fn stage_with(
     Ok(stage)
 }
 
-/// How far a run comes as room grows.
+/// How far a run comes as room grows, until it comes to its end.
 fn stages(alloc: Global, gathering: Gathering, whole: &[u8]) -> Result<Vec<Stage>, Fail> {
     let mut seen = Vec::new(alloc);
     for units in 0..1024usize {
         let stage = stage_with(alloc, units, gathering, whole)?;
         if seen.last() != Some(&stage) {
             seen.push(stage)?;
+        }
+        if stage == Stage::End {
+            break;
         }
     }
     Ok(seen)
