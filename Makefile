@@ -118,30 +118,33 @@ reading:
 of_programs = $(1:%=programs/%)
 TRIED = documents/readme $(call of_programs,old_book gaps full_output books fold) packages/units \
     programs/awks
-TRIED_ALL = $(call of_programs,complaints history table) documents/version packages/packages
+TRIED_ALL = $(call of_programs,complaints history table) documents/version
 passes = { $(1) || { echo 'failed: $(1)' >&2; exit 1; }; } &&
 tries_many = $(call passes,tests/programs/arguments.py $(PROGRAM))
 tries_large = $(call passes,tests/programs/ample.py $(PROGRAM)) \
     $(call passes,tests/programs/endless_lines.py $(PROGRAM))
+tries_packages = $(call passes,tests/packages/packages.sh $(PROGRAM) $(HISTORY) $(TABLE))
 tries = $(call passes,tests/programs/table.py $(TABLE) 100) \
     $(foreach it,$(TRIED),$(call passes,tests/$(it).sh $(PROGRAM))) \
     $(foreach it,$(TRIED_ALL),$(call passes,tests/$(it).sh $(PROGRAM) $(HISTORY) $(TABLE)))
 
-# these: those of many inputs, those of large ones, and the others with the recipes that need only a POSIX
-# system, all with the programs that build/programs.sh finds; then what they answer on other machines; each
-# says what it leaves out because a tool isn't there
-.PHONY: tried tried-many tried-large tried-here tried-elsewhere
-tried: tried-many tried-large tried-here tried-elsewhere
-tried-many tried-large tried-here tried-elsewhere:
+# these: those of many inputs, those of large ones, the others with the recipes that need only a POSIX
+# system, and the packages, all with the programs that build/programs.sh finds; then what they answer on
+# other machines; each says what it leaves out because a tool isn't there
+.PHONY: tried tried-many tried-large tried-here tried-packages tried-elsewhere
+tried: tried-many tried-large tried-here tried-packages tried-elsewhere
+tried-many tried-large tried-here tried-packages tried-elsewhere:
 	@programs=$$(build/programs.sh) && set -- $$programs && \
 	    $(MAKE) --no-print-directory $@-with PROGRAM=$$1 HISTORY=$$2 TABLE=$$3
-.PHONY: tried-many-with tried-large-with tried-here-with tried-elsewhere-with
+.PHONY: tried-many-with tried-large-with tried-here-with tried-packages-with tried-elsewhere-with
 tried-many-with:
 	@$(tries_many) true
 tried-large-with:
 	@$(tries_large) true
 tried-here-with:
 	@$(tries) $(call passes,examples/cookbook.sh --posix $(PROGRAM)) true
+tried-packages-with:
+	@$(tries_packages) true
 tried-elsewhere-with:
 	@tests/programs/everywhere.sh $(PROGRAM) $(HISTORY) $(TABLE)
 
@@ -154,7 +157,7 @@ recipes:
 # these, the module and the library for C, and every recipe of the cookbook whose tools are there
 cookbook: build
 	@$(MAKE) --no-print-directory elsewhere
-	@$(tries_many) $(tries_large) $(tries) $(call passes,examples/cookbook.sh $(PROGRAM)) true
+	@$(tries_many) $(tries_large) $(tries) $(tries_packages) $(call passes,examples/cookbook.sh $(PROGRAM)) true
 	@$(MAKE) --no-print-directory tried-elsewhere-with
 	tests/sources/tools.sh --all $(PROGRAM)
 	$(MAKE) --no-print-directory clib wasm page

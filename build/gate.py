@@ -128,7 +128,7 @@ def every_job(of_edits: Iterator[Job]) -> List[Job]:
     # of aprs-net the types alone: its tests wait for clocks and servers, and are those of `make test`
     tools = Job("types of tools", ["tests/sources/tools.sh"], frozenset(), TEST)
     of_programs = [make(it, PROGRAM) for it in ("tried-many", "tried-large", "tried-elsewhere")]
-    of_programs += [make("tried-here", PROGRAM, PAGE), release]
+    of_programs += [make(it, PROGRAM, PAGE) for it in ("tried-here", "tried-packages")] + [release]
     of_sources = [*tests_of_crates(), *tests_of_sources(), tools]
     return [*proofs(every), *of_edits, *of_sources, *of_programs]
 
@@ -144,7 +144,7 @@ def test() -> List[Job]:
     of_programs = [make("tools", PAGE)]
     if not found.returncode:
         of_programs += [make("tried-many"), make("tried-large")]
-        of_programs += [make("tried-here", PAGE), make("tried-elsewhere")]
+        of_programs += [make("tried-here", PAGE), make("tried-packages", PAGE), make("tried-elsewhere")]
     of_crates = list(tests_of_crates()) if has_kit else []
     return [*of_crates, *tests_of_sources(), *of_programs]
 

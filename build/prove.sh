@@ -47,6 +47,8 @@ case $crate in
 *_tests) command=(rt test --jobs "$jobs") ;;
 *) command=(rt lib --jobs "$jobs") ;;
 esac
+# of a static library nothing here is linked: `make clib` compiles it
+if grep -q "^$crate staticlib:" crates.txt; then command=(rt check --jobs "$jobs"); fi
 given=/dev/null
 if [ -f "crates/$crate/src/main.rt" ]; then
     # a program runs once, so that it is linked, on what its stored run reads
