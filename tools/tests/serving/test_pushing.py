@@ -134,3 +134,18 @@ def test_once_fails_where_lines_are_refused(
     assert cli.run(["push", "--once", "http://net.example/", "HILL", str(tmp_path)]) == status
     assert capfd.readouterr().err.endswith(words)
     assert server.taken.count(b"\n") == 10 - 2 * len(numbers)
+
+
+def test_a_log_that_cant_be_read_holds_up_no_other(
+        monkeypatch: pytest.MonkeyPatch, capfd: pytest.CaptureFixture[str],
+        tmp_path: pathlib.Path) -> None:
+    """What stood before today's log, as a folder of its name, kept that from the server for good."""
+    server = Refusing()
+    monkeypatch.setattr(pushing, "Server", lambda *_: server)
+    bad = tmp_path / "2024-06-20" / "HILL.log"
+    bad.mkdir(parents=True)
+    (tmp_path / DAY).mkdir()
+    (tmp_path / DAY / "HILL.log").write_bytes(b"".join(lines_of(5)))
+    status = cli.run(["push", "--once", "http://net.example/", "HILL", str(tmp_path)])
+    assert status == ExitStatus.INPUT and server.taken == b"".join(lines_of(5))
+    assert str(bad) in capfd.readouterr().err

@@ -235,10 +235,17 @@ class Pusher:
             it.forget()
 
     def push(self) -> None:
-        """Pushes what is new."""
+        """Pushes what is new of each log. A log that can't be read, or is refused, holds up no other:
+        the first fault of one is raised once all others are pushed."""
+        faults: List[Exception] = []
         for log in self.look():
-            while self.push_some(log):
-                pass
+            try:
+                while self.push_some(log):
+                    pass
+            except (Fault, OSError) as fault:
+                faults.append(fault)
+        if faults:
+            raise faults[0]
 
     def push_some(self, log: Log) -> bool:
         """Pushes the next lines of a log; whether there may be more."""
