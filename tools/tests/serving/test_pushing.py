@@ -139,7 +139,7 @@ def test_once_fails_where_lines_are_refused(
 def test_a_log_that_cant_be_read_holds_up_no_other(
         monkeypatch: pytest.MonkeyPatch, capfd: pytest.CaptureFixture[str],
         tmp_path: pathlib.Path) -> None:
-    """What stood before today's log, as a folder of its name, kept that from the server for good."""
+    """A folder of the name of an older log kept today's from the server for good."""
     server = Refusing()
     monkeypatch.setattr(pushing, "Server", lambda *_: server)
     bad = tmp_path / "2024-06-20" / "HILL.log"

@@ -235,8 +235,8 @@ class Pusher:
             it.forget()
 
     def push(self) -> None:
-        """Pushes what is new of each log. A log that can't be read, or is refused, holds up no other:
-        the first fault of one is raised once all others are pushed."""
+        """Pushes what is new of each log. A log that can't be read, or is refused, holds up no
+        other: the first fault of one is raised once all others are pushed."""
         faults: List[Exception] = []
         for log in self.look():
             try:
