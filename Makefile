@@ -169,8 +169,8 @@ bench: build
 	bench/run.sh $(PROGRAM)
 	bench/books.sh $(PROGRAM) $(FOLD)
 	bench/library.sh
-	bench/history.sh $(PROGRAM) $(HISTORY)
-	bench/tables.sh $(PROGRAM) $(TABLE)
+	bench/tables.sh $(PROGRAM) $(TABLE) $(HISTORY)
+	bench/reports.sh $(PROGRAM)
 
 # instructions of each run, beside those that are written in bench/counts.txt
 .PHONY: bench-counts

@@ -7,21 +7,17 @@
 # Two million lines take 2 GB of disk in TMPDIR, and the generator half a minute.
 # shellcheck disable=SC2119,SC2120 # a run is called with words to stand before its command, or with none
 set -euo pipefail
-export LC_ALL=C
+. "$(dirname "$0")/timing.sh"
 program=$(realpath "$1")
 fold=$(realpath -s "$2")
 shift 2
 [ $# -gt 0 ] || set -- 200000 2000000
-here=$(dirname "$(realpath "$0")")
-. "$here/timing.sh"
-work=$(mktemp -d)
-trap 'rm -rf "$work"' EXIT
-cd "$work"
-build_plain "$here"
+enter_work
 
 # The runs. Those of three logs, of 64 and of the day's log are of the same receptions.
 merge_logs() { "$@" "$program" merge three/a.log three/b.log three/c.log; }
 merge_books() { "$@" "$program" merge three/a.book three/b.book three/c.book; }
+merge_nothing() { "$@" "$program" merge nothing.log; }
 show_logs() { "$@" "$program" show three/a.log three/b.log three/c.log; }
 plain_logs() { "$@" plain/merge three/a.log three/b.log three/c.log; }
 plain_books() { "$@" plain/book_merge three/a.book three/b.book three/c.book; }
@@ -64,6 +60,7 @@ measure_books() {
     local lines=$1 log run
     rm -rf three many most
     mkdir three many most
+    : > nothing.log
     python3 "$here/make_log.py" "$lines" three
     plain_logs > all.book
     for log in three/?.log; do "$program" merge "$log" > "${log%.log}.book"; done
@@ -77,9 +74,10 @@ measure_books() {
     done
     same "merge_year and C, $lines lines" merge_year plain_year
 
-    take_turns merge_books plain_books
+    take_turns merge_books plain_books merge_nothing
     time_row 'merge of three book files / C' "$lines" 1.4 merge_books plain_books
     memory_row 'merge of three book files / C: peak memory' "$lines" 0.65 merge_books plain_books
+    row_memory_row 'merge of three book files: memory of a row / 90 bytes' three/?.book
     take_turns merge_day plain_year merge_year show_year widen_year
     time_row "a day's log into a year's book / C, the book alone" "$lines" 2.0 merge_day plain_year
     time_row "show of a year's book / merge of it" "$lines" 1.5 show_year merge_year
@@ -91,6 +89,15 @@ measure_books() {
     memory_row 'merge of three logs / C, sort and merge: peak memory' "$lines" 1.0 merge_logs plain_logs
     time_row 'show of three logs / merge of them' "$lines" 1.5 show_logs merge_logs
     memory_row 'show of three logs / merge of them: peak memory' "$lines" 1.2 show_logs merge_logs
+}
+
+# row_memory_row WHAT BOOK...: what merge_books takes for each row of its books, beside 90 bytes
+row_memory_row() {
+    local what=$1 rows
+    shift
+    rows=$(($(cat "$@" | wc -l) - 2 * $#))
+    ratio_row "$what" "$rows" 1.0 $(((peak_of[merge_books] - peak_of[merge_nothing]) * 1024)) \
+        $((90 * rows)) '%.1f / %.1f bytes' "$rows"
 }
 
 # cut_up NUMBER FOLDER: the three logs one after another, cut into so many, each with its book

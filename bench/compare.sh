@@ -5,8 +5,7 @@
 # shellcheck disable=SC2119,SC2120 # a run is called with words to stand before its command, or with none
 set -euo pipefail
 program=$1
-here=$(dirname "$(realpath "$0")")
-. "$here/timing.sh"
+. "$(dirname "$0")/timing.sh"
 receiver=RX1
 moment=2024-05-01T12:00:00Z
 

@@ -6,14 +6,9 @@
 #              GROWTH_LINES    the sizes: lines of three logs in all ("10000 100000 1000000")
 #              ONE_KEY_ROWS    transmissions of one key (2000)
 set -euo pipefail
-export LC_ALL=C
+. "$(dirname "$0")/timing.sh"
 program=$(realpath "$1")
-here=$(dirname "$(realpath "$0")")
-. "$here/timing.sh"
-work=$(mktemp -d)
-trap 'rm -rf "$work"' EXIT
-cd "$work"
-build_plain "$here"
+enter_work
 
 show_load 'before'
 echo

@@ -5,15 +5,10 @@
 # environment: RUNS    of how many runs the best counts (1)
 # shellcheck disable=SC2119,SC2120 # a run is called with words to stand before its command, or with none
 set -euo pipefail
-export LC_ALL=C
-program=$(realpath "$1")
-here=$(dirname "$(realpath "$0")")
 : "${RUNS:=1}"
-. "$here/timing.sh"
-work=$(mktemp -d)
-trap 'rm -rf "$work"' EXIT
-cd "$work"
-build_plain "$here"
+. "$(dirname "$0")/timing.sh"
+program=$(realpath "$1")
+enter_work
 
 # show WHAT BYTES RUN: what the run takes
 show() {

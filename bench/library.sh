@@ -6,12 +6,10 @@
 # usage: bench/library.sh [ROWS]...    two books of 20,000 rows where none are asked for
 # environment: RUNS                    of how many runs the best counts (5)
 set -euo pipefail
-export LC_ALL=C
+. "$(dirname "$0")/timing.sh"
 [ $# -gt 0 ] || set -- 20000
-here=$(dirname "$(realpath "$0")")
-. "$here/timing.sh"
-work=$(mktemp -d)
-view=$(dirname "$here")/out/bench_library
+view=${here%/*}/out/bench_library
+enter_work
 trap 'rm -rf "$work" "$view"; rmdir "$(dirname "$view")" 2> /dev/null || true' EXIT
 
 # Proves and builds the caller in a view of its own: links to the libraries and to what was proved of them.
@@ -71,9 +69,6 @@ measure_takes() {
 }
 
 build_caller
-cd "$work"
-mkdir plain
-"${CC:-cc}" -O2 -Wall -Wextra -o plain/cost "$here/plain/cost.c"
 show_load 'before'
 echo
 ratio_head

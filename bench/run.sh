@@ -5,16 +5,10 @@
 # usage: bench/run.sh PROGRAM [LINES]    a million lines where none are asked for
 # environment: RUNS                      of how many runs the best counts (5)
 set -euo pipefail
-export LC_ALL=C
+. "$(dirname "$0")/timing.sh"
 program=$(realpath "$1")
 lines=${2:-1000000}
-here=$(dirname "$(realpath "$0")")
-. "$here/timing.sh"
-work=$(mktemp -d)
-trap 'rm -rf "$work"' EXIT
-
-cd "$work"
-build_plain "$here"
+enter_work
 python3 "$here/make_log.py" "$lines" > heard.log
 python3 "$here/make_log.py" hexadecimal "$lines" > heard.hex
 python3 "$here/make_log.py" kinds "$lines" > heard.kinds

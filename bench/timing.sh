@@ -4,13 +4,18 @@
 # A run is the name of a function that runs a command behind the words that the function is given: alone
 # it gives the command's output, and behind plain/cost.c what the command took.
 : "${RUNS:=5}"
+export LC_ALL=C
 declare -A time_of peak_of
+here=$(dirname "$(realpath "${BASH_SOURCE[0]}")")
 
-# Builds the plain C programs beside a script into `plain/` of the working folder.
-build_plain() {
+# Goes to a working folder, which goes away at the end, with the plain C programs in its `plain/`.
+enter_work() {
     local source
+    work=$(mktemp -d)
+    trap 'rm -rf "$work"' EXIT
+    cd "$work" || exit 1
     mkdir plain
-    for source in "$1"/plain/*.c; do
+    for source in "$here"/plain/*.c; do
         "${CC:-cc}" -O2 -Wall -Wextra -o "plain/$(basename "$source" .c)" "$source"
     done
 }
