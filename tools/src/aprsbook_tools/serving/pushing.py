@@ -1,5 +1,6 @@
 """Pushes a receiver's logs to a server. The files are the store, and the server's state says where
 to go on, so nothing is kept here: whoever was killed, or lost what it knew, begins the same way."""
+import errno
 import http.client
 import json
 import os
@@ -116,7 +117,9 @@ class Piece(NamedTuple):
 
 
 def piece_of(path: str, begin: int, most: int = PIECE) -> Piece:
-    """The whole lines of a log from a place on."""
+    """The whole lines of a log from a place on. OSError of what is no file, as a pipe."""
+    if os.path.exists(path) and not inputs.is_file(path):
+        raise OSError(errno.EINVAL, "it is no file", path)
     with open(path, "rb") as file:
         file.seek(begin)
         octets = file.read(most)
