@@ -153,3 +153,14 @@ def test_a_log_that_cant_be_read_holds_up_no_other(
     status = cli.run(["push", "--once", "http://net.example/", "HILL", str(tmp_path)])
     assert status == ExitStatus.INPUT and server.taken == b"".join(lines_of(5))
     assert str(bad) in capfd.readouterr().err
+
+
+def test_once_fails_where_no_log_is(capfd: pytest.CaptureFixture[str], tmp_path: pathlib.Path
+                                    ) -> None:
+    """Of a folder or a name that was mistyped it ended with 0, as if all were pushed."""
+    (tmp_path / DAY).mkdir()
+    (tmp_path / DAY / "HILL.log").write_bytes(b"".join(lines_of(5)))
+    for name, folder in ("HILLS", tmp_path), ("HILL", tmp_path / "nowhere"):
+        status = cli.run(["push", "--once", "http://127.0.0.1:9/", name, str(folder)])
+        said = capfd.readouterr().err
+        assert (status, said) == (1, f"aprs-net: in {folder} is no log of {name}\n")

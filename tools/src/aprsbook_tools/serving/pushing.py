@@ -365,8 +365,10 @@ def push_beside(pusher: Pusher, each: float, say: Say) -> threading.Thread:
 
 
 def push_once(pusher: Pusher) -> None:
-    """Pushes what is there; a Fault where the server is away."""
+    """Pushes what is there; a Fault where the server is away, or nothing is there."""
     try:
         pusher.push()
     except Away as fault:
         raise Fault(str(fault))
+    if not pusher.logs:
+        raise Fault(f"in {pusher.folder} is no log of {pusher.name}")
