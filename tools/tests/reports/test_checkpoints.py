@@ -192,7 +192,8 @@ def test_a_matrix_in_json_has_each_checkpoint(programs: Programs, tmp_path: path
     programs.say(LAPS[0])
     words = "passed", "--quiet", "--matrix", "--format", "json", "--points", "points", "net.log"
     assert json.loads(programs.run(*words)) == [
-        {"bib": "", "name": "Q1A", "tactical": "", "Tarn": "18:00:00", "Tarn #2": "", "name #2": ""}]
+        {"bib": "", "name": "Q1A", "tactical": "",
+         "Tarn": "18:00:00", "Tarn #2": "", "name #2": ""}]
 
 
 def test_a_matrix_by_bib(programs: Programs, tmp_path: pathlib.Path) -> None:
