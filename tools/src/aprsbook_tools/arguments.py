@@ -59,10 +59,8 @@ def moment(text: str) -> int:
     if ago:
         now = time.time_ns() // 1_000_000
         return max(0, now - 1000 * int(ago[1]) * SECONDS[ago[2] or "s"])
-    if CLOCK.fullmatch(text):
-        text = f"{today()}T{text}"
     try:
-        return beginning(text)
+        return beginning(f"{today()}T{text}" if CLOCK.fullmatch(text) else text)
     except ValueError:
         raise argparse.ArgumentTypeError(f"{text!r} {NO_MOMENT}") from None
 

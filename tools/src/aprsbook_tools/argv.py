@@ -67,8 +67,8 @@ class Parser(argparse.ArgumentParser):
         """Its help, as wide as the terminal."""
         width = help_width()
         self.formatter_class = formatter(width)
-        self.description = filled(self.said, width).replace("%", "%%")
-        self.epilog = examples_text(self.examples, width).replace("%", "%%")
+        self.description = filled(self.said, width)
+        self.epilog = examples_text(self.examples, width)
         return super().format_help()
 
     def print_help(self, file: Optional[IO[str]] = None) -> None:

@@ -8,6 +8,7 @@ from aprsbook_tools import TYPE_CHECKING, VERSION, commands, signals, stderr, st
 from aprsbook_tools.errors import NO_ROOM, ExitStatus, Fault, words_of
 
 if TYPE_CHECKING:
+    from sys import UnraisableHookArgs
     from typing import List, NoReturn, Optional, Sequence, Tuple
 
 HELP = """\
@@ -31,6 +32,7 @@ Write a log of the TNC at port 8001, and make a page of it:
 
 
 LEAST_PYTHON = (3, 9)
+SOON = 0.01  # seconds
 OBJECTS = 50_000  # new ones, after which rings of them are looked for: rows of tables are none
 
 
@@ -44,6 +46,17 @@ class Ended(BaseException):
 
 def end(number: int, _: object) -> "NoReturn":
     raise Ended(number)
+
+
+def come_again(lost: "UnraisableHookArgs") -> None:
+    """Has a signal come once more that came where Python ends nothing, as when an object goes."""
+    fault = lost.exc_value
+    number = fault.number if isinstance(fault, Ended) else signal.SIGINT
+    if isinstance(fault, (Ended, KeyboardInterrupt)) and hasattr(signal, "setitimer"):
+        signal.signal(signal.SIGALRM, lambda *_: os.kill(os.getpid(), number))
+        signal.setitimer(signal.ITIMER_REAL, SOON)
+    else:
+        sys.__unraisablehook__(lost)
 
 
 def help_text() -> str:
@@ -150,6 +163,7 @@ def main(arguments: "Optional[Sequence[str]]" = None) -> int:
         return ExitStatus.MISSING
     gc.set_threshold(OBJECTS)
     signals.heed(end, "SIGTERM", "SIGHUP")
+    sys.unraisablehook = come_again
     try:
         status = run(arguments)
     except KeyboardInterrupt:

@@ -33,6 +33,10 @@ def test_standard_input_is_an_input(club: Club) -> None:
         assert club.read() == club.merged(30, "hill", "coast")
     done = tried("book", "net.book", "-", given=b"x\n", status=1, cwd=club.folder, env=club.env)
     assert b"standard input: line 1: " in done.stderr
+    done = tried("book", "net.book", "-", given=given[:-1], status=1, cwd=club.folder, env=club.env)
+    number = given.count(b"\n")
+    assert done.stderr == (b"aprs-net: standard input: line %d: NoNewline: its whole lines are "
+                           b"taken; aprs-net mend writes them\n" % number)
 
 
 def test_nothing_is_made_again_without_need(club: Club) -> None:

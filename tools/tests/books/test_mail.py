@@ -152,6 +152,9 @@ def test_one_faulty_neighbour_is_no_other_ones_fault(club: Club) -> None:
     sent.write_bytes(run("aprsbook", "merge", "--gap", "60", HILL))
     club.mail(status=1)
     assert "has the gap 60" in club.said and "all is sent again" in club.said
+    sent.write_bytes(b"")  # as a power failure leaves one
+    club.mail(status=1)
+    assert f"{sent} is no book: put back a copy" in club.said and "None" not in club.said
 
 
 def test_a_killed_run_loses_nothing(club: Club, tmp_path: pathlib.Path) -> None:

@@ -36,8 +36,9 @@ def test_a_clock_is_of_today_and_a_time_ago(monkeypatch: pytest.MonkeyPatch) -> 
     "2024-06-21T18:00+02:60", "1969-12-31", "2100-01-01", "1970-01-01T00:00+01:00", "-2w", "--2h",
     "2h", "２０24-06-21"])
 def test_what_is_no_moment_is_refused(text: str) -> None:
-    with pytest.raises(argparse.ArgumentTypeError, match="is no moment in UTC, such as"):
+    with pytest.raises(argparse.ArgumentTypeError, match="is no moment in UTC, such as") as caught:
         arguments.moment(text)
+    assert str(caught.value).startswith(f"{text!r} ")  # as it was typed
 
 
 @pytest.mark.parametrize("unit, text, wanted", [

@@ -119,6 +119,11 @@ def test_help_of_each_command(programs: Programs, monkeypatch: pytest.MonkeyPatc
     assert max(map(len, programs.run("help").splitlines())) <= 80
 
 
+def test_help_says_what_to_type(programs: Programs) -> None:
+    """It had each sign of a percentage twice, which Dire Wolf prints as it stands."""
+    assert " -T %Y-%m-%dT%H:%M:%S\n" in programs.run("help", "import")
+
+
 @pytest.mark.parametrize("words", [["-qh"], ["--from", "-2h", "-h"], ["net.log", "--help"]])
 def test_help_has_the_usage_however_it_is_asked_for(programs: Programs, words: "list[str]"
                                                     ) -> None:

@@ -139,6 +139,19 @@ def test_a_compressed_log_is_read(tmp_path: pathlib.Path) -> None:
     assert tried("shift", "0", tmp_path / "a.log.gz").stdout == log
 
 
+def test_of_a_compressed_log_that_was_cut_short_whole_lines_are_kept(tmp_path: pathlib.Path
+                                                                     ) -> None:
+    """`aprs-net book` says that it writes them, and it wrote nothing."""
+    log, path, new = COAST.read_bytes(), tmp_path / "a.log.gz", tmp_path / "new"
+    path.write_bytes(gzip.compress(log)[:-200])
+    said = tried("mend", path, "-o", new, status=1).stderr.decode()
+    whole = new.read_bytes()
+    assert whole and whole.endswith(b"\n") and log.startswith(whole) and whole != log
+    assert tried("mend", path, status=1).stdout == whole
+    assert said.startswith(f"aprs-net: {path}: can't be unpacked to its end: ")
+    assert said.endswith(f": whole lines before that are written: {len(whole.splitlines())}\n")
+
+
 @pytest.mark.skipif(not os.path.exists("/proc/self/mem"), reason="needs /proc")
 def test_an_input_that_refuses_is_named_and_not_the_output(tmp_path: pathlib.Path) -> None:
     for output in "-", tmp_path / "out":

@@ -1,4 +1,5 @@
 """Logs: lines, torn ends, and what is held while there is no room."""
+import errno
 import os
 import pathlib
 from typing import List, Set
@@ -119,6 +120,17 @@ def test_frames_that_are_lost_are_told_by_the_hundred(
     for second in range(500):
         logs.put("RX1", line(second % 60))
     assert len(said) == 6 and said[-1].endswith("held: 100, lost: 400")
+
+
+def test_a_log_for_which_no_room_is_left_is_named(
+        tmp_path: pathlib.Path, monkeypatch: pytest.MonkeyPatch) -> None:
+    """It was only where the beginning of a line could be written."""
+    def refuse(_: int, __: bytes) -> int:
+        raise OSError(errno.ENOSPC, os.strerror(errno.ENOSPC))
+    monkeypatch.setattr(os, "write", refuse)
+    said: List[str] = []
+    Logs(str(tmp_path), said.append).put("RX1", line())
+    assert said == [f"{path(tmp_path)}: No space left on device: frames that are held: 1, lost: 0"]
 
 
 def test_a_log_of_each_day(tmp_path: pathlib.Path) -> None:

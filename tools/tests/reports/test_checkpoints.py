@@ -1,4 +1,5 @@
 """Who came by a checkpoint: by the way between two places, and lap by lap."""
+import json
 import pathlib
 from typing import Any, List
 
@@ -183,6 +184,16 @@ def test_the_command(programs: Programs, tmp_path: pathlib.Path) -> None:
         ],
     ]
     programs.run("passed", "-o", "points", "--points", "points", "net.log", status=2)
+
+
+def test_a_matrix_in_json_has_each_checkpoint(programs: Programs, tmp_path: pathlib.Path) -> None:
+    """Of two with one name it had the last alone, and of one called `name` not who passed."""
+    (tmp_path / "points").write_text("Tarn 54.5 -3.5 60\nTarn 10 10 60\nname 10 10 60\n")
+    programs.say(LAPS[0])
+    words = "passed", "--quiet", "--matrix", "--format", "json", "--points", "points", "net.log"
+    assert json.loads(programs.run(*words)) == [
+        {"bib": "", "name": "Q1A", "tactical": "",
+         "Tarn": "18:00:00", "Tarn #2": "", "name #2": ""}]
 
 
 def test_a_matrix_by_bib(programs: Programs, tmp_path: pathlib.Path) -> None:

@@ -192,6 +192,25 @@ def test_a_fault_takes_nothing_away(programs: Programs) -> None:
     assert (programs.folder / "link.db").is_symlink() and not (programs.folder / "new.db").exists()
 
 
+def test_a_full_disk_takes_nothing_away(tmp_path: pathlib.Path) -> None:
+    """Half of what was written was left, and a journal by which SQLite takes it back later."""
+    resource = pytest.importorskip("resource")
+    path, most = tmp_path / "net.db", resource.getrlimit(resource.RLIMIT_FSIZE)
+    with databases.writing(str(path), []) as base:
+        base.execute("create table mine (a)")
+        base.executemany("insert into mine values (?)", 100 * [(1000 * "x",)])
+    before = path.read_bytes()
+    with pytest.raises(Fault, match="net.db: "), databases.writing(str(path), []) as base:
+        resource.setrlimit(resource.RLIMIT_FSIZE, (1 << 20, most[1]))
+        try:
+            base.execute("delete from mine")
+            base.executemany("insert into mine values (?)", 20_000 * [(1000 * "y",)])
+        finally:
+            resource.setrlimit(resource.RLIMIT_FSIZE, most)
+    assert path.read_bytes() == before
+    assert sorted(it.name for it in tmp_path.iterdir()) == [".net.db.lock", "net.db"]
+
+
 @pytest.mark.parametrize("name", ["net.log", "net.book", "notes.txt", "other.log"])
 def test_what_is_no_database_is_kept(programs: Programs, name: str) -> None:
     (programs.folder / "net.book").write_text("APRSBOOK 3 30\nEND 0\n")

@@ -1,7 +1,8 @@
 """Who pushes: where it goes on in a log, by what the server has, and how long it waits."""
 import itertools
+import os
 import pathlib
-from typing import Any, Dict, List, Optional, Tuple
+from typing import Any, Callable, Dict, List, Optional, Tuple
 
 import pytest
 
@@ -136,16 +137,30 @@ def test_once_fails_where_lines_are_refused(
     assert server.taken.count(b"\n") == 10 - 2 * len(numbers)
 
 
+@pytest.mark.parametrize("make", [os.mkdir, getattr(os, "mkfifo", os.mkdir)])
 def test_a_log_that_cant_be_read_holds_up_no_other(
         monkeypatch: pytest.MonkeyPatch, capfd: pytest.CaptureFixture[str],
-        tmp_path: pathlib.Path) -> None:
-    """A folder of the name of an older log kept today's from the server for good."""
+        tmp_path: pathlib.Path, make: Callable[[pathlib.Path], None]) -> None:
+    """A folder of the name of an older log kept today's from the server for good, and a pipe was
+    waited for."""
     server = Refusing()
     monkeypatch.setattr(pushing, "Server", lambda *_: server)
     bad = tmp_path / "2024-06-20" / "HILL.log"
-    bad.mkdir(parents=True)
+    bad.parent.mkdir()
+    make(bad)
     (tmp_path / DAY).mkdir()
     (tmp_path / DAY / "HILL.log").write_bytes(b"".join(lines_of(5)))
     status = cli.run(["push", "--once", "http://net.example/", "HILL", str(tmp_path)])
     assert status == ExitStatus.INPUT and server.taken == b"".join(lines_of(5))
     assert str(bad) in capfd.readouterr().err
+
+
+def test_once_fails_where_no_log_is(capfd: pytest.CaptureFixture[str], tmp_path: pathlib.Path
+                                    ) -> None:
+    """Of a folder or a name that was mistyped it ended with 0, as if all were pushed."""
+    (tmp_path / DAY).mkdir()
+    (tmp_path / DAY / "HILL.log").write_bytes(b"".join(lines_of(5)))
+    for name, folder in ("HILLS", tmp_path), ("HILL", tmp_path / "nowhere"):
+        status = cli.run(["push", "--once", "http://127.0.0.1:9/", name, str(folder)])
+        said = capfd.readouterr().err
+        assert (status, said) == (1, f"aprs-net: in {folder} is no log of {name}\n")

@@ -358,8 +358,8 @@ def test_without_tornado_it_says_what_to_install(tmp_path: pathlib.Path) -> None
     env = {**its.env, "PYTHONPATH": f"{tmp_path}:{its.env['PYTHONPATH']}"}
     said = tried("serve", tmp_path / "logs", env=env, status=6).stderr
     assert b"apt install python3-tornado" in said
-    assert b"lines pushed" in tried("push", "--once", "http://127.0.0.1:9/", "HILL", tmp_path,
-                                    env=env).stderr
+    assert b"is no log of HILL" in tried("push", "--once", "http://127.0.0.1:9/", "HILL", tmp_path,
+                                         status=1, env=env).stderr
 
 
 def test_by_tls_with_a_certificate_of_its_own(tmp_path: pathlib.Path) -> None:

@@ -45,6 +45,7 @@ class Wish:
     work: str = ""
     noted: bool = True
     named: Sequence[str] = ()  # what was typed: a book of these isn't left out
+    once: Sequence[str] = ()  # files that go away: of pipes, which are read once
     left: List[str] = dataclasses.field(default_factory=list)  # what was left out, all or a part
 
     @property
@@ -305,13 +306,14 @@ def of_each(plan: Plan, items: Sequence[Input], wish: Wish, pass_over: PassOver)
 
     told = pass_over if wish.pass_over else note
     made = building.books_of_each(engine, plan, items, told)
-    rest = [it for path, why in faulty.items() for it in rescued(plan, path, why, pass_over)]
+    rest = [it for path, why in faulty.items()
+            for it in rescued(plan, path, why, pass_over, path in wish.once)]
     rescue = dataclasses.replace(plan, stem="rescued-")
     made += building.books_of_each(engine, rescue, rest, pass_over) if rest else []
     return building.narrow(engine, plan, made, [])
 
 
-def rescued(plan: Plan, path: str, why: str, leave_out: PassOver) -> List[Input]:
+def rescued(plan: Plan, path: str, why: str, leave_out: PassOver, is_once: bool) -> List[Input]:
     """What can be taken of an input that is faulty or gone: what it has become since, where it was
     packed meanwhile, or else the whole lines of a log, which is said."""
     packed = [path + it for it in packing.OPENERS if os.path.exists(path + it)]
@@ -323,9 +325,9 @@ def rescued(plan: Plan, path: str, why: str, leave_out: PassOver) -> List[Input]
         return []
     into = plan.path(f"mended-{len(plan.made):06}.log")
     left = mending.mend_into(path, into)
-    mends = f"aprs-net mend {shlex.quote(path)} -o NEW.log"
+    named = "" if is_once else f" {shlex.quote(path)} -o NEW.log"
     leave_out(path, f"{why}: " + (
-        f"its whole lines are taken; {mends} writes them" if left else "left out"))
+        f"its whole lines are taken; aprs-net mend{named} writes them" if left else "left out"))
     return [inputs.look_at(into)] if left else []
 
 

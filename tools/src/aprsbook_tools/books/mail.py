@@ -73,6 +73,9 @@ def sent_to(neighbour: Neighbour, gap: int, folder: str) -> str:
             programs.write_book(file, "aprsbook", "merge", "--gap", str(gap), "--", os.devnull)
         return path
     has = inputs.gap_of(neighbour.sent)
+    if has is None:
+        raise Fault(f"{neighbour.sent} is no book: put back a copy, or take it away, and all is "
+                    "sent again")
     if has != gap:
         raise Fault(f"{neighbour.sent} has the gap {has}, and the book {gap}: take it away, and "
                     "all is sent again")

@@ -1,9 +1,11 @@
 """The whole lines of a log that was cut short, has holes, or was saved by an editor as UTF-16."""
 import codecs
+import contextlib
 import io
 from typing import IO, Any, Iterator, Optional, cast
 
 from aprsbook_tools.books import inputs
+from aprsbook_tools.errors import Fault
 from aprsbook_tools.formats import log_file
 from aprsbook_tools.system import packing
 
@@ -13,9 +15,11 @@ UTF_16 = {codecs.BOM_UTF16_LE: "utf-16", codecs.BOM_UTF16_BE: "utf-16", b"2\0": 
 
 
 class Left:
-    """How many lines were left out, and how many taken."""
+    """How many lines were left out, and how many taken; `why` says what is wrong where a packed log
+    can't be unpacked to its end."""
     out = 0
     taken = 0
+    why = ""
 
 
 class Again(io.RawIOBase):
@@ -63,18 +67,19 @@ def whole_lines(file: IO[bytes], left: Left) -> Iterator[bytes]:
         torn = not ends
 
 
+def mended(file: IO[bytes], left: Left) -> Iterator[bytes]:
+    """The whole lines of a log, also of a packed one as far as it can be unpacked."""
+    try:
+        yield from whole_lines(file, left)
+    except packing.faults(OSError) as fault:
+        if isinstance(fault, OSError) and fault.errno is not None:
+            raise
+        left.why = f"can't be unpacked to its end: {fault}"
+
+
 def mend_into(path: str, into: str) -> Optional[Left]:
-    """Writes the whole lines of a log, also of a compressed one as far as it can be unpacked; None
-    where it has none."""
+    """Writes the whole lines of a log into a file; None where it has none."""
     left = Left()
-    with open(into, "wb") as mended:
-        try:
-            with inputs.opened(path) as file:
-                mended.writelines(whole_lines(file, left))
-        except packing.faults():
-            left.out += 1
-        except OSError as fault:
-            if fault.errno is not None:
-                raise
-            left.out += 1
+    with open(into, "wb") as new, contextlib.suppress(Fault), inputs.unpacking(path) as file:
+        new.writelines(mended(file, left))
     return left if left.taken else None

@@ -36,12 +36,20 @@ def spooled(paths: Sequence[str]) -> Iterator[List[str]]:
             copies[it] = os.path.join(folder, f"{number} {name}")
             with read_once(it) as given, open(copies[it], "wb") as file:
                 file.writelines(programs.blocks_in(given))
+        files = [copies.get(it, it) for it in paths or ["-"]]
         try:
-            yield [copies.get(it, it) for it in paths or ["-"]]
+            yield files
         except Fault as fault:
-            for it, copy in copies.items():
-                fault.words = fault.words.replace(copy, "standard input" if it == "-" else it)
+            fault.words = as_typed(fault.words, paths, files)
             raise
+
+
+def as_typed(words: str, paths: Sequence[str], files: Sequence[str]) -> str:
+    """Words about the files that stand for paths, with these."""
+    for it, file in zip(paths or ["-"], files):
+        if it != file:
+            words = words.replace(file, "standard input" if it == "-" else it)
+    return words
 
 
 @contextlib.contextmanager

@@ -89,6 +89,7 @@ def run(args: argparse.Namespace) -> int:
     with merged_inputs.spooled(args.inputs) as paths:
         # what standard input had isn't there again
         wish.noted = paths == args.inputs
+        wish.once = [it for it in paths if it not in args.inputs]
         items = inputs.of(paths)
         if not items and not args.pass_over:
             raise Fault(f"no logs and no books are in {' '.join(paths)}")
@@ -96,7 +97,8 @@ def run(args: argparse.Namespace) -> int:
             book.make_parts(args.book, items, args.parts, wish, say)
         else:
             check_named(paths)
-            book.make(args.book, items, wish, say)
+            book.make(args.book, items, wish, lambda text: say(
+                merged_inputs.as_typed(text, args.inputs, paths)))
     return ExitStatus.INPUT if wish.left else ExitStatus.DONE
 
 

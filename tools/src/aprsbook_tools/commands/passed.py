@@ -2,6 +2,7 @@
 from __future__ import annotations
 
 import argparse
+import itertools
 import re
 
 from aprsbook_tools import TYPE_CHECKING, arguments, stderr, table_output
@@ -163,7 +164,16 @@ def matrix_of(
     ):
         line: List[Cell] = [bib_of(thing, roster), thing.name, tactical_of(thing, roster)]
         lines.append(line + [cells[key].get(it, "") for it in columns])
-    return ["bib", "name", "tactical", *names], lines
+    return distinct(["bib", "name", "tactical", *names]), lines
+
+
+def distinct(names: Sequence[str]) -> List[str]:
+    """Names of columns, of which JSON takes each once: one that is there already gets a number."""
+    found: List[str] = []
+    for name in names:
+        numbered = (f"{name} #{number}" for number in itertools.count(2))
+        found.append(next(it for it in itertools.chain([name], numbered) if it not in found))
+    return found
 
 
 def say_what_is_wild(things: Sequence[Thing], fastest: float) -> None:

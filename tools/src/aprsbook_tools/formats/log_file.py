@@ -204,10 +204,10 @@ def append(path: str, line: bytes, say: Say, sync: bool = False) -> bool:
         try:
             if os.write(file, line) < len(line):
                 raise OSError(errno.ENOSPC, os.strerror(errno.ENOSPC), path)
-        except OSError:
+        except OSError as fault:
             if os.fstat(file).st_size > size:
                 os.ftruncate(file, size)
-            raise
+            raise OSError(fault.errno, fault.strerror, path) from fault
         if sync:
             disk.sync(file)
     finally:

@@ -227,7 +227,15 @@ def transaction(path: str, file: str, settings: Sequence[str] = ()) -> Iterator[
         finally:
             base.close()  # what wasn't committed is taken back
     except sqlite3.Error as fault:
+        take_back(file)
         raise Fault(f"{path}: {fault}", ExitStatus.OUTPUT) from fault
+
+
+def take_back(file: str) -> None:
+    """Reads a database, in which a full disk has left half of what was written: SQLite takes that
+    back then, and its journal away."""
+    with contextlib.suppress(sqlite3.Error), contextlib.closing(sqlite3.connect(file)) as base:
+        base.execute("select count(*) from sqlite_master").fetchall()
 
 
 def drop(base: sqlite3.Connection, name: str) -> None:

@@ -1,5 +1,6 @@
 """Pushes a receiver's logs to a server. The files are the store, and the server's state says where
 to go on, so nothing is kept here: whoever was killed, or lost what it knew, begins the same way."""
+import errno
 import http.client
 import json
 import os
@@ -116,7 +117,9 @@ class Piece(NamedTuple):
 
 
 def piece_of(path: str, begin: int, most: int = PIECE) -> Piece:
-    """The whole lines of a log from a place on."""
+    """The whole lines of a log from a place on. OSError of what is no file, as a pipe."""
+    if os.path.exists(path) and not inputs.is_file(path):
+        raise OSError(errno.EINVAL, "it is no file", path)
     with open(path, "rb") as file:
         file.seek(begin)
         octets = file.read(most)
@@ -362,8 +365,10 @@ def push_beside(pusher: Pusher, each: float, say: Say) -> threading.Thread:
 
 
 def push_once(pusher: Pusher) -> None:
-    """Pushes what is there; a Fault where the server is away."""
+    """Pushes what is there; a Fault where the server is away, or nothing is there."""
     try:
         pusher.push()
     except Away as fault:
         raise Fault(str(fault))
+    if not pusher.logs:
+        raise Fault(f"in {pusher.folder} is no log of {pusher.name}")
