@@ -130,6 +130,15 @@ def test_dates_beside_calls(page: Chromium, folder: pathlib.Path) -> None:
         is_((width, name, year, page.js(over)), (width, name, year, []))
 
 
+def test_long_receivers(page: Chromium, folder: pathlib.Path) -> None:
+    """On a phone the names of receivers, of 16 letters, are broken in the list of stations."""
+    for width in 320, 360:
+        page.open(page_of(folder / "long.html", place(
+            0, "Q1A", 54.5, -3.5, receivers="BASE_COAST_NORTH,BASE_COAST_SOUTH")), width, 800)
+        is_(page.js("(it => it.scrollWidth - it.clientWidth)"
+                    "(document.getElementById('things-box'))"), 0)
+
+
 def test_a_tool_that_is_on(page: Chromium, folder: pathlib.Path) -> None:
     """A tool of the map that is on is told from the others by its colour, the system's too."""
     page.open(page_of(folder / "tools.html", place(0, "Q1A", 54.5, -3.5)))
