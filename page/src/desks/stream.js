@@ -2,6 +2,8 @@
 // The stream of a server that tells at once what is new in logs and in the journals of desks. Who
 // listens says how far each was read, so nothing is lost or doubled where it ends and begins again.
 
+import { accepted } from "../util/refused.js";
+
 /**
  * After how many milliseconds it is listened again; after how many without the first word, and
  * without a word then, the server is away; and how often it is asked where no stream comes through.
@@ -176,7 +178,5 @@ export class Stream {
 }
 /** @param {string} url */
 async function textOf(url) {
-  const answer = await fetch(url, { cache: "no-store" });
-  if (!answer.ok) throw new Error(`the server answers ${answer.status}`);
-  return answer.text();
+  return accepted(await fetch(url, { cache: "no-store" })).text();
 }
