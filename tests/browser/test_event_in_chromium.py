@@ -1,6 +1,7 @@
 """The page of an event in headless Chromium: text off the air does nothing, the controls work."""
 import csv
 import io
+import itertools
 import json
 import pathlib
 import shutil
@@ -112,6 +113,30 @@ def test_times_of_two_years(page: Chromium, folder: pathlib.Path) -> None:
     is_(page.js(texts % "#ics-sheets .time"), ["2024-06-21 00:01:00", "2025-06-22 01:00:00"])
     is_(page.js("[...document.querySelectorAll('#ics-sheets .time')].filter(it => "
                 "it.scrollWidth > it.clientWidth).length"), 0)
+
+
+def test_dates_beside_calls(page: Chromium, folder: pathlib.Path) -> None:
+    """On a phone neither a call nor a time with its date runs out of its cell of a list."""
+    said = "".join(message("Q1NET", it, "?", "unanswered", at, id="1")
+                   for it in ("Q1MED-7", "BLN1RACE") for at in (1, 1500))
+    over = ("[...document.querySelectorAll('#messages td, #bulletins td')].filter(it => {"
+            "const of = document.createRange(); of.selectNodeContents(it);"
+            "return of.getBoundingClientRect().right > it.getBoundingClientRect().right; })"
+            ".map(it => it.textContent)")
+    roster = "Q1NET Net control\nQ1MED-7 Medic"
+    for width, name, year in itertools.product((320, 360), ("", roster), ("2024", "2025")):
+        page.open(page_of(folder / "dates.html", place(0, "Q1A", 54.5, -3.5),
+                          said.replace("2024-06-22", f"{year}-06-22"), roster=name), width, 800)
+        is_((width, name, year, page.js(over)), (width, name, year, []))
+
+
+def test_long_receivers(page: Chromium, folder: pathlib.Path) -> None:
+    """On a phone the names of receivers, of 16 letters, are broken in the list of stations."""
+    for width in 320, 360:
+        page.open(page_of(folder / "long.html", place(
+            0, "Q1A", 54.5, -3.5, receivers="BASE_COAST_NORTH,BASE_COAST_SOUTH")), width, 800)
+        is_(page.js("(it => it.scrollWidth - it.clientWidth)"
+                    "(document.getElementById('things-box'))"), 0)
 
 
 def test_a_tool_that_is_on(page: Chromium, folder: pathlib.Path) -> None:

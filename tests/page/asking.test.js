@@ -2,7 +2,8 @@ import assert from "node:assert/strict";
 import { EventEmitter, once } from "node:events";
 import http from "node:http";
 import { test } from "node:test";
-import { askFor, namesIn, Refused } from "../../page/src/intake/http-get.js";
+import { askFor, namesIn } from "../../page/src/intake/http-get.js";
+import { Refused } from "../../page/src/util/refused.js";
 
 /** In milliseconds, by the clock of a test; nothing of Node waits so long. */
 const LIMIT = 2500;

@@ -110,6 +110,25 @@ test("what is marked in another tab is marked in this one at once", { skip }, ()
   hear();
   assert.ok(newsOf("1 message unanswered"));
 });
+test("a net that gets another title takes its marks along, but for those before it", { skip },
+  async () => {
+    const showAs = title => show(dataIn(JSON.stringify({ ...DATA, title })));
+    const old = new Journal("", async () => null, null, () => 1.7e12);
+    old.add("dealt", { alarm: "home Q1OLD", note: "" });
+    page.marks.unite([...old.entries.keys()].join("\n"));
+    button("#messages", "dealt with").click();
+    assert.ok(newsOf("0 messages unanswered") && newsOf("1 station silent"));
+    await showAs("Fell race");
+    assert.ok(newsOf("0 messages unanswered") && newsOf("2 stations silent"));
+    assert.match(localStorage.getItem("aprsbook marks: Fell race"), /"alarm":"message Q1OLD/);
+    await showAs("Live");
+    button("#messages", "take back").click();
+    // marks that a title has already stay as they are
+    await showAs("Fell race");
+    assert.ok(newsOf("0 messages unanswered"));
+    await showAs("Live");
+    assert.ok(newsOf("1 message unanswered"));
+  });
 test("where a mark is set in the panel or taken back the keyboard stays with it", { skip }, () => {
   [...document.querySelectorAll("#things .pick")].find(it => it.textContent === "Q1HOME").click();
   assert.equal(press("#one-about", "went home"), "take back: Q1HOME");

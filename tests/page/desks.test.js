@@ -63,11 +63,10 @@ test("a stream begins again where it was", () => {
   opened[0].on.net("{}");
   assert.deepEqual(said.filter(([kind]) => kind !== "alive"), [["2024-06-21/HILL.log", "abc\n"],
     ["anew", "2024-06-21/HILL.log"], ["gone", "2024-06-20/HILL.log"], ["net", "{}"]]);
-  assert.equal(stream.isOpen, true);
   sizes.set("2024-06-21/HILL.log", 20);
   opened[0].onerror();
   stop();
-  assert.ok(opened[0].isClosed && !stream.isOpen);
+  assert.ok(opened[0].isClosed);
   assert.deepEqual(said.at(-1), ["alive", false]);
   stream.begin();
   stop();
@@ -88,11 +87,52 @@ test("where a proxy cuts streams, the server is asked", async () => {
   stop();
   assert.deepEqual([opened.length, asked], [2, ["events?once=1"]]);
   assert.deepEqual(said.slice(-2), [["alive", true], ["a.log", "one\n"]]);
+  stream.begin();
+  opened[2].onerror();
+  stop();
   isThere = false;
   await stream.begin();
   stop();
   assert.deepEqual(said.at(-1), ["alive", false]);
   assert.ok(patience.ask < patience.silent);
+});
+/** Begins so often, each stream without a word; what was begun: a stream, or a question. */
+async function begunInVain({ stream, opened, asked, stop }, often) {
+  const begun = [];
+  for (let k = 0; k < often; k++) {
+    const many = opened.length + asked.length, streams = opened.length;
+    await stream.begin();
+    if (opened.length > streams) opened.at(-1).onerror();
+    stop();
+    assert.equal(opened.length + asked.length, many + 1);
+    begun.push(opened.length > streams ? "stream" : "ask");
+  }
+  return begun;
+}
+test("a server that was away is listened to again, and not asked for ever", async t => {
+  let isThere = false;
+  const of = listening(async () => {
+    if (!isThere) throw new Error("away");
+    return "event: beat\ndata: 17\n\n";
+  });
+  t.after(of.stop);
+  // it comes back just when it is asked, and the next stream has a word
+  await begunInVain(of, 2);
+  for (let turn = 0; turn < 2; turn++) {
+    isThere = true;
+    assert.deepEqual(await begunInVain(of, 1), ["ask"]);
+    const { length } = of.opened;
+    await of.stream.begin();
+    assert.equal(of.opened.length, length + 1);
+    of.opened.at(-1).on.beat("18");
+    isThere = false;
+    of.opened.at(-1).onerror();
+    of.stop();
+    assert.deepEqual(await begunInVain(of, 3), ["stream", "stream", "ask"]);
+  }
+  // where it answers, and no stream comes through all the same, it is asked
+  isThere = true;
+  assert.deepEqual(await begunInVain(of, 5), ["ask", "stream", "ask", "ask", "ask"]);
 });
 
 test("an entry has one spelling, which the server takes", () => {

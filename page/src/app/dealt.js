@@ -7,28 +7,31 @@ import { page, tell } from "./state.js";
 import { Journal } from "../desks/journal.js";
 import { storeOf } from "../ics309/own-lines.js";
 import { otherCallOf } from "../net/alarms.js";
+import { keepsNo } from "../util/text.js";
 
 /** Nobody takes what a page by itself writes down: it stays in this browser. */
 const keepHere = async () => null;
 /** Whether the page has said last that its marks would be lost. */
 let isTold = false;
-const AT_RISK = "This browser keeps no marks: save the page of the event, which has them.";
 /**
  * Has the marks of a net by its title, where no journal is shared, and those that stand in its
- * page.
+ * page. A net that gets another title takes those along that were set since it began.
  * @param {string} title
  * @param {string} given
  * @param {() => void} onChange
+ * @param {number} begin of the net, in seconds
  */
-export function openMarks(title, given, onChange) {
-  const key = `aprsbook marks: ${title}`;
+export function openMarks(title, given, onChange, begin = Infinity) {
+  const key = `aprsbook marks: ${title}`, before = page.marks;
   if (page.journal) return;
-  if (page.marks?.key !== key) page.marks = new Journal("", keepHere, storeOf(), Date.now, key);
-  const marks = page.marks;
+  const isSame = before?.key === key;
+  const marks = isSame ? before : new Journal("", keepHere, storeOf(), Date.now, key);
+  page.marks = marks;
   marks.onChange = () => {}; // what is given is drawn with all else
+  if (before && !isSame) marks.takeAlong(before, begin);
   marks.unite(given);
   marks.onChange = () => {
-    if (marks.isAtRisk !== isTold) tell(marks.isAtRisk ? AT_RISK : "", marks.isAtRisk);
+    if (marks.isAtRisk !== isTold) tell(marks.isAtRisk ? keepsNo("marks") : "", marks.isAtRisk);
     isTold = marks.isAtRisk;
     onChange();
   };

@@ -6,6 +6,7 @@ import { show } from "./render.js";
 import { aheadOf, staleWords } from "./staleness.js";
 import { dataIn, page, shownNow, view, widgets } from "./state.js";
 import { byId, choose, chosen, textOf, write } from "../util/dom.js";
+import { accepted, Refused } from "../util/refused.js";
 import { age } from "../util/time.js";
 
 /**
@@ -53,8 +54,6 @@ export function heard(answer, asked) {
   alive.answered = Date.now();
   alive.ahead = aheadOf(answer.headers.get("date"), asked, alive.answered);
 }
-/** The server is there, and hands out no page. */
-class Refused extends Error {}
 /** Loads the page again: its data alone where a server has it, and all of it from a disk. */
 export async function again() {
   if (!isServed()) return location.reload();
@@ -62,8 +61,8 @@ export async function again() {
   const late = setTimeout(() => { alive.away ||= alive.asked; tick(); }, patience.late);
   try {
     const signal = /** @type {any} */ (AbortSignal).timeout(patience.most);
-    const answer = await fetch(location.pathname + location.search, { cache: "no-store", signal });
-    if (!answer.ok) throw new Refused(`the server answers ${answer.status}`);
+    const answer = accepted(
+      await fetch(location.pathname + location.search, { cache: "no-store", signal }));
     const tree = new DOMParser().parseFromString(await answer.text(), "text/html");
     // such as a page that asks for a password
     if (!tree.getElementById("data")) throw new Refused("the server answers with another page");

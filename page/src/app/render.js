@@ -113,9 +113,10 @@ function turnTo(shown) {
     .map(it => it.first), ...net.whole.needy.map(it => all.rows.last[it.lastUrgent] ?? NaN)],
   settings);
   if (fresh) {
-    openMarks(data.title, data.marks || "", drawMarks);
+    const span = spanOf(all);
+    openMarks(data.title, data.marks || "", drawMarks, span?.begin);
     readBrought();
-    page.own.open(data.title, data.lines, spanOf(all));
+    page.own.open(data.title, data.lines, span);
   }
   nameThings(net);
   stations.placed = net.placed;

@@ -142,6 +142,16 @@ export class Journal {
     if (entries.size > size) this.onChange();
   }
   /**
+   * Takes along what another journal has since a moment in seconds, where this one has nothing.
+   * @param {Journal} other @param {number} begin
+   */
+  takeAlong({ entries }, begin) {
+    if (this.entries.size) return;
+    for (const [text, { at }] of entries)
+      if (at >= begin * 1000 && this.put(text)) this.waiting.add(text);
+    if (this.waiting.size) this.keep();
+  }
+  /**
    * Adds an entry of this desk; its id.
    * @param {keyof typeof KINDS} kind
    * @param {Record<string, string>} says

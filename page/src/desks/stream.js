@@ -2,6 +2,8 @@
 // The stream of a server that tells at once what is new in logs and in the journals of desks. Who
 // listens says how far each was read, so nothing is lost or doubled where it ends and begins again.
 
+import { accepted } from "../util/refused.js";
+
 /**
  * After how many milliseconds it is listened again; after how many without the first word, and
  * without a word then, the server is away; and how often it is asked where no stream comes through.
@@ -79,11 +81,12 @@ export class Stream {
     this.listener = listener;
     this.open = open;
     this.ask = ask;
-    this.isOpen = false;
     /** Hears each event, before it is taken. */
     this.onTold = (/** @type {string} */ _kind, /** @type {string} */ _data) => {};
-    /** How many streams ended one after another without a word. */
+    /** How many streams ended one after another without a word; -1 while one has words. */
     this.vain = 0;
+    /** Whether the server, asked last, answered, with no word of a stream since. */
+    this.answers = false;
     /** @type {ReturnType<typeof setTimeout> | undefined} */
     this.timer = undefined;
     /** @type {Record<string, (data: string) => void>} */
@@ -115,10 +118,9 @@ export class Stream {
   begin() {
     if (this.vain >= VAIN) return this.askOnce();
     const source = this.open(this.url());
-    let isHeard = false;
     const end = () => {
       source.close();
-      this.vain = isHeard ? 0 : this.vain + 1;
+      this.vain++;
       this.end();
     };
     const hear = () => {
@@ -127,7 +129,8 @@ export class Stream {
     };
     for (const kind of Object.keys(this.kinds))
       source.addEventListener(kind, event => {
-        isHeard = true;
+        this.vain = -1;
+        this.answers = false;
         hear();
         this.tell(kind, /** @type {MessageEvent<string>} */ (event).data);
       });
@@ -137,13 +140,11 @@ export class Stream {
   /** The server is there. */
   hear() {
     clearTimeout(this.timer);
-    this.isOpen = true;
     this.listener.alive(true);
   }
   /** The server is away; it is listened again. */
   end() {
     clearTimeout(this.timer);
-    this.isOpen = false;
     this.listener.alive(false);
     this.timer = setTimeout(() => this.begin(), patience.again * (0.5 + Math.random()));
   }
@@ -165,15 +166,17 @@ export class Stream {
   async askOnce() {
     try {
       await this.takeOnce();
+      // it may have been away before, so that one stream more says whether any comes through
+      if (!this.answers) this.vain--;
+      this.answers = true;
       this.timer = setTimeout(() => this.begin(), patience.ask);
     } catch {
+      this.answers = false;
       this.end();
     }
   }
 }
 /** @param {string} url */
 async function textOf(url) {
-  const answer = await fetch(url, { cache: "no-store" });
-  if (!answer.ok) throw new Error(`the server answers ${answer.status}`);
-  return answer.text();
+  return accepted(await fetch(url, { cache: "no-store" })).text();
 }

@@ -5,7 +5,7 @@ import { deskNodes } from "./desk-lines.js";
 import { keepDraft, readDraft } from "./draft.js";
 import { fieldOf, fillForm, momentIn, sheetsShown } from "./sheets.js";
 import { byId } from "../util/dom.js";
-import { count } from "../util/text.js";
+import { count, keepsNo } from "../util/text.js";
 
 /** @typedef {import("../util/dom.js").Input} Input */
 /** @typedef {import("./own-lines.js").Line} Line */
@@ -115,8 +115,7 @@ export class Form {
   /** @param {boolean} isKept whether the browser keeps what was changed */
   tell(isKept) {
     const { others, ofOtherDays } = this.page.own;
-    byId("own-told").textContent = [isKept ? ""
-      : "This browser keeps no lines: save the page of the event, which has them.",
+    byId("own-told").textContent = [isKept ? "" : keepsNo("lines"),
     others ? `Left out, more than a day off: ${count(others, "line")}.` : "",
     ofOtherDays ? `More than a day off, and shown: ${count(ofOtherDays, "line")}.` : ""]
       .filter(Boolean).join(" ");

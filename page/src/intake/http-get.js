@@ -3,9 +3,8 @@
 
 import { kindOf, writtenIn } from "../formats/file-kinds.js";
 import { joined } from "../formats/gunzip.js";
+import { accepted, Refused } from "../util/refused.js";
 
-/** The server is there, and hands out no such file. */
-export class Refused extends Error {}
 /** @param {number} limit in milliseconds */
 const late = limit => new Refused(`no answer within ${limit / 1000} s`);
 
@@ -25,8 +24,8 @@ export async function askFor(url, limit, options = {}) {
   };
   wait();
   try {
-    const answer = await fetch(url, { cache: "no-store", signal: control.signal, ...options });
-    if (!answer.ok) throw new Refused(`the server answers ${answer.status}`);
+    const answer = accepted(
+      await fetch(url, { cache: "no-store", signal: control.signal, ...options }));
     return { answer, bytes: await bytesOf(answer, wait) };
   } catch (fault) {
     throw control.signal.aborted ? late(limit) : fault;

@@ -3,6 +3,7 @@
 // asked for by slices.
 
 import { tell, widgets } from "../app/state.js";
+import { accepted } from "../util/refused.js";
 import { messageOf, printable } from "../util/text.js";
 import { askFor } from "./http-get.js";
 
@@ -46,9 +47,8 @@ export class ServedFile {
 /** @param {string} name */
 async function served(name) {
   const url = new URL(`tiles/${encodeURIComponent(name)}`, location.href).href;
-  const answer = await fetch(url, { method: "HEAD" });
-  if (!answer.ok) throw new Error(`the server answers ${answer.status}`);
-  return new ServedFile(url, Number(answer.headers.get("content-length")));
+  const { headers } = accepted(await fetch(url, { method: "HEAD" }));
+  return new ServedFile(url, Number(headers.get("content-length")));
 }
 
 /** The map of the server that is drawn, or nothing. */

@@ -82,6 +82,9 @@ export function byLetters(a, b) {
   return of(a) - of(b);
 }
 
+/** What is said where the browser doesn't keep something. */
+export const keepsNo = (/** @type {string} */ what) =>
+  `This browser keeps no ${what}: save the page of the event, which has them.`;
 /** What a fault says that was thrown. */
 export const messageOf = (/** @type {unknown} */ fault) =>
   fault instanceof Error ? fault.message : String(fault);
