@@ -12,7 +12,8 @@ and examples. What is noted so isn't tried again, but with --anew, which tries a
 which tries anew those of must-fail/, and with --draw, which tries anew N of each crate, by chance.
 
 A crate's edits of different functions are put into one copy of it, which is checked over what was
-proved of the crate before (`make build`). A goal of a function rests on the function's own code, and
+proved of the crate before (`make build`). Where that wasn't kept (`make prove`), these functions and
+those that they call are checked from nothing. A goal of a function rests on the function's own code, and
 on contracts and definitions, which no edit changes. So an edit is refused where the check refuses a
 goal of a function that it changes. What isn't refused so, and what shares no check, as a constant,
 is tried alone. Before them the copy is checked as it stands, and has to be proved, unless build/prove.sh
@@ -63,7 +64,7 @@ class Check(NamedTuple):
     @property
     def is_judged(self) -> bool:
         """Whether the prover came to a verdict, and didn't stop at what doesn't compile."""
-        return any(it.startswith("logic=") for it in self.lines)
+        return any(it.startswith(("logic=", "only=")) for it in self.lines)
 
 
 class Told(NamedTuple):
@@ -99,7 +100,7 @@ class View:
         files = {file for edit in edits for file in edit.lines}
         before = {it: (self.folder / it).read_text(encoding="utf-8") for it in files}
         texts = wrong_bodies.with_edits(before, edits)
-        return self.checked(texts), texts
+        return self.checked(texts, only_of(self.crate, edits)), texts
 
     def checked(self, texts: Dict[str, str], options: Sequence[str] = ()) -> Check:
         """Checks the crate with these texts of its files. Returns what was said."""
@@ -118,10 +119,37 @@ class View:
         return Check(ran.stdout.rstrip("\n").split("\n"), ran.returncode)
 
 
+def only_of(crate: str, edits: Sequence[Edit]) -> List[str]:
+    """The options by which a check from nothing checks the functions that these edits change, and those that
+    they call, alone: none where there is kept work to begin with, or where that isn't all to check."""
+    out = TOP / "crates" / crate / "out"
+    if (out / "incremental").is_dir() or any(it.is_alone for it in edits):
+        return []
+    known = (out / "functions").read_text(encoding="utf-8").split()
+    found: List[str] = []
+    for function in sorted({it for edit in edits for it in edit.changed}):
+        own = [it for it in known if re.fullmatch(path_of(function), it)]
+        if not own:
+            return []
+        found += own
+    return [word for path in sorted(set(found)) for word in ("--only", path)]
+
+
+def path_of(function: Function) -> str:
+    """A pattern of the path by which a check names a function: of an impl of a trait that names both."""
+    owner = [rf"{function.owner}\w*"] if function.owner else []
+    return "::".join([*module_of(function), *owner, function.name])
+
+
+def module_of(function: Function) -> List[str]:
+    """The names of the module that a function stands in."""
+    module = function.file[len("src/"):-len(".rt")].split("/")
+    return [it for it in module if it not in ("lib", "main", "mod")]
+
+
 def is_proof_of(file: str, function: Function) -> bool:
     """Whether this file of proofs/ has answers to the goals of a function."""
-    module = function.file[len("src/"):-len(".rt")].split("/")
-    module = [it for it in module if it not in ("lib", "main", "mod")]
+    module = module_of(function)
     parts = file.split("/")[1:-1]
     rest = parts[len(module):]
     if parts[:len(module)] != module or not rest or rest[-1] != function.name:
@@ -335,7 +363,8 @@ def tried(crate: str, asked: argparse.Namespace, turns: threading.Semaphore) -> 
     """Tries the edits of a crate, and prints what became of them. Returns how many were refused,
     and how many not."""
     began = time.monotonic()
-    if not (TOP / "crates" / crate / "out" / "incremental").is_dir():
+    out = TOP / "crates" / crate / "out"
+    if not any((out / it).is_dir() for it in ("incremental", "rlib")):
         print(f"{crate}: nothing is proved of it yet: make build", flush=True)
         return 0, 1
     trial = Trial(crate, asked, turns)

@@ -62,13 +62,13 @@ def is_program(crate: str) -> bool:
     return (TOP / "crates" / crate / "src" / "main.rt").is_file()
 
 
-def proofs(names: Sequence[str]) -> Iterator[Job]:
-    """The proofs of these crates, and the runs of the program."""
+def proofs(names: Sequence[str], *options: str) -> Iterator[Job]:
+    """The proofs of these crates by these options, and the runs of the program."""
     every = crates.rows()
     for name in names:
         row = every[name]
         after = frozenset(it for it in row.libraries if it in every)
-        command = ["build/prove.sh", name, jobs.JOBS]
+        command = ["build/prove.sh", name, jobs.JOBS, *options]
         most = 1 if is_program(name) or is_of_tests(name) else 2
         yield Job(name, command, after, size_of(name), most)
         if name == PROGRAM:
@@ -118,11 +118,11 @@ def check() -> List[Job]:
 def prove() -> List[Job]:
     """The gate, with some edits of a crate that is drawn by chance."""
     drawn = random.choice(list(filter(edits.paths_of, crates.rows())))
-    return every_job(trials(["--must-fail"], drawn))
+    return every_job(trials(["--must-fail"], drawn), "--anew")
 
 
-def every_job(of_edits: Iterator[Job]) -> List[Job]:
-    """The gate, with these of the edits."""
+def every_job(of_edits: Iterator[Job], *options: str) -> List[Job]:
+    """The gate, with these of the edits, and these options of proofs."""
     every = list(filter(is_to_prove, crates.rows()))
     release = Job("release", ["build/objects.sh", "--compare"], frozenset([PROGRAM]))
     # of aprs-net the types alone: its tests wait for clocks and servers, and are those of `make test`
@@ -130,7 +130,7 @@ def every_job(of_edits: Iterator[Job]) -> List[Job]:
     of_programs = [make(it, PROGRAM) for it in ("tried-many", "tried-large", "tried-elsewhere")]
     of_programs += [make(it, PROGRAM, PAGE) for it in ("tried-here", "tried-packages")] + [release]
     of_sources = [*tests_of_crates(), *tests_of_sources(), tools]
-    return [*proofs(every), *of_edits, *of_sources, *of_programs]
+    return [*proofs(every, *options), *of_edits, *of_sources, *of_programs]
 
 
 def test() -> List[Job]:
@@ -175,6 +175,10 @@ def put_back(names: Sequence[str]) -> None:
         if (ASIDE / name).is_dir() and not is_whole:
             shutil.rmtree(folder, ignore_errors=True)
             (ASIDE / name).rename(folder)
+        # what a next check begins with, which a library that was proved from nothing hasn't
+        kept = ASIDE / name / "incremental"
+        if kept.is_dir() and not (folder / "incremental").exists():
+            kept.rename(folder / "incremental")
     shutil.rmtree(ASIDE, ignore_errors=True)
 
 

@@ -1,6 +1,8 @@
 #!/usr/bin/env bash
-# build/prove.sh CRATE JOBS: proves a library, a program, or a crate of tests, which then run, once those
-# below it are proved, beside others that don't stand on it, with so many jobs.
+# build/prove.sh CRATE JOBS [--anew]: proves a library, a program, or a crate of tests, which then run, once
+# those below it are proved, beside others that don't stand on it, with so many jobs. With --anew nothing
+# is there of an earlier proof, and of a library nothing is kept for a next one: those above it then load
+# its statements alone, which takes half as long where many crates lie below.
 #
 # `rt` holds the folder of the crate that it proves and those of all crates below, so that two crates over
 # a third would wait for each other. So each is proved in a view of its own under out/: folders with links
@@ -10,6 +12,8 @@ set -euo pipefail
 cd "$(dirname "$0")/.."
 crate=$1
 jobs=$2
+anew=${3-}
+top=$PWD
 view=out/$crate
 
 # the crates of this repository below it; crates.txt has lower ones first
@@ -47,15 +51,18 @@ case $crate in
 *_tests) command=(rt test --jobs "$jobs") ;;
 *) command=(rt lib --jobs "$jobs") ;;
 esac
+if [ -n "$anew" ]; then command=("$top/build/library.py" "$jobs"); fi
 # of a static library nothing here is linked: `make clib` compiles it
 if grep -q "^$crate staticlib:" crates.txt; then command=(rt check --jobs "$jobs"); fi
 given=/dev/null
 if [ -f "crates/$crate/src/main.rt" ]; then
     # a program runs once, so that it is linked, on what its stored run reads
     command=(rt run --jobs "$jobs")
-    given=$PWD/crates/$crate/stdin
+    given=$top/crates/$crate/stdin
 fi
-(cd "$view/crates/$crate" && "${command[@]}" 2>&1 < "$given") | sed -u "s/^/$crate: /"
+(cd "$view/crates/$crate" && "${command[@]}" 2>&1 < "$given") | tee "$view/said" | sed -u "s/^/$crate: /"
+# the functions as a check names them, for checks of some of them
+sed -n "s/^fn $crate::\(.*\): proved\$/\1/p" "$view/said" > "$view/crates/$crate/out/functions"
 if [ "$crate" = aprsbook ]; then build/names.sh "$view/crates/$crate/out" > /dev/null; fi
 mkdir -p out/proved
 printf '%s\n' "$sum" > "out/proved/$crate"
