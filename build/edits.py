@@ -125,31 +125,20 @@ def only_of(crate: str, edits: Sequence[Edit]) -> List[str]:
     out = TOP / "crates" / crate / "out"
     if (out / "incremental").is_dir() or any(it.is_alone for it in edits):
         return []
-    known = (out / "functions").read_text(encoding="utf-8").split()
+    names = out / "functions"
+    known = names.read_text(encoding="utf-8").split() if names.is_file() else []
     found: List[str] = []
     for function in sorted({it for edit in edits for it in edit.changed}):
-        own = [it for it in known if re.fullmatch(path_of(function), it)]
+        own = [it for it in known if re.fullmatch(wrong_bodies.path_of(function), it)]
         if not own:
             return []
         found += own
     return [word for path in sorted(set(found)) for word in ("--only", path)]
 
 
-def path_of(function: Function) -> str:
-    """A pattern of the path by which a check names a function: of an impl of a trait that names both."""
-    owner = [rf"{function.owner}\w*"] if function.owner else []
-    return "::".join([*module_of(function), *owner, function.name])
-
-
-def module_of(function: Function) -> List[str]:
-    """The names of the module that a function stands in."""
-    module = function.file[len("src/"):-len(".rt")].split("/")
-    return [it for it in module if it not in ("lib", "main", "mod")]
-
-
 def is_proof_of(file: str, function: Function) -> bool:
     """Whether this file of proofs/ has answers to the goals of a function."""
-    module = module_of(function)
+    module = wrong_bodies.module_of(function)
     parts = file.split("/")[1:-1]
     rest = parts[len(module):]
     if parts[:len(module)] != module or not rest or rest[-1] != function.name:

@@ -61,8 +61,9 @@ if [ -f "crates/$crate/src/main.rt" ]; then
     given=$top/crates/$crate/stdin
 fi
 (cd "$view/crates/$crate" && "${command[@]}" 2>&1 < "$given") | tee "$view/said" | sed -u "s/^/$crate: /"
-# the functions as a check names them, for checks of some of them
-sed -n "s/^fn $crate::\(.*\): proved\$/\1/p" "$view/said" > "$view/crates/$crate/out/functions"
+# the functions as a check names them, for checks of some of them; where nothing was checked they stand
+sed -n "s/^fn $crate::\(.*\): proved\$/\1/p" "$view/said" > "$view/functions"
+if [ -s "$view/functions" ]; then mv "$view/functions" "$view/crates/$crate/out/functions"; fi
 if [ "$crate" = aprsbook ]; then build/names.sh "$view/crates/$crate/out" > /dev/null; fi
 mkdir -p out/proved
 printf '%s\n' "$sum" > "out/proved/$crate"

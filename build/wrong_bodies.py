@@ -76,6 +76,18 @@ def functions_of(file: str, text: str) -> List[Function]:
     return found
 
 
+def path_of(function: Function) -> str:
+    """A pattern of the path by which a check names a function: of an impl of a trait that names both."""
+    owner = [rf"{function.owner}\w*"] if function.owner else []
+    return "::".join([*module_of(function), *owner, function.name])
+
+
+def module_of(function: Function) -> List[str]:
+    """The names of the module that a function stands in."""
+    module = function.file[len("src/"):-len(".rt")].split("/")
+    return [it for it in module if it not in ("lib", "main", "mod")]
+
+
 def without_bodies(source: bytes) -> bytes:
     """A source file without the bodies of its functions, of which all others know the clauses alone."""
     return kept_of(source, lambda head, code: True)

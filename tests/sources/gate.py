@@ -115,6 +115,7 @@ class Aside(unittest.TestCase):
             for it in (old, new):
                 it.mkdir(parents=True)
                 (it / "stamp").write_text("before")
+                (it.parent / "incremental").mkdir()
             rows = {it: crates.Row(it, "", []) for it in ("old", "new")}
             with mock.patch.multiple(gate, TOP=top, ASIDE=top / "out" / "before"):
                 with mock.patch.object(crates, "rows", lambda: rows):
@@ -125,6 +126,7 @@ class Aside(unittest.TestCase):
                         (old.parent / "incremental").mkdir(parents=True)
             self.assertEqual((old / "stamp").read_text(), "before")
             self.assertEqual((new / "stamp").read_text(), "after")
+            self.assertTrue((new.parent / "incremental").is_dir(), "a next check begins with it")
             self.assertFalse((top / "out" / "before").exists())
 
 

@@ -4,6 +4,7 @@ alone in its check, and which edits share one.
 usage: tests/sources/wrong_bodies.py
 """
 import pathlib
+import re
 import sys
 import tempfile
 import unittest
@@ -115,6 +116,19 @@ class Edits(unittest.TestCase):
         self.assertEqual(seen(ghost + clause), seen(ghost.replace(", ◌⊎◌", "") + clause))
         self.assertNotEqual(seen(ghost + clause), seen(ghost.replace("◌≤◌, ", "") + clause))
         self.assertEqual(seen(ghost + SOURCE), seen(SOURCE))
+
+    def test_a_check_names_functions_by_paths(self) -> None:
+        def fits(file: str, owner: str, path: str) -> bool:
+            held = wrong_bodies.Function(file, 1, 2, owner, "first")
+            return re.fullmatch(wrong_bodies.path_of(held), path) is not None
+
+        self.assertTrue(fits("src/lib.rt", "", "first"))
+        self.assertTrue(fits("src/row/view.rt", "", "row::view::first"))
+        self.assertTrue(fits("src/row/view.rt", "View", "row::view::View::first"))
+        self.assertTrue(fits("src/row/view.rt", "View", "row::view::ViewIterator::first"))
+        self.assertFalse(fits("src/row/view.rt", "View", "row::view::first"))
+        self.assertFalse(fits("src/row/view.rt", "", "row::view::View::first"))
+        self.assertFalse(fits("src/view.rt", "View", "row::view::View::first"))
 
     def test_a_body_is_its_function(self) -> None:
         self.assertEqual(self.changed("count > TWICE", "count < TWICE"), {"is_long"})
