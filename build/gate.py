@@ -32,7 +32,7 @@ ASIDE = TOP / "out" / "before"
 # how long a job takes, in lines of code that are proved, some 0.1 seconds each: a crate of no lines, each
 # crate below one, a check for edits, an edit, the link of the program, and a make of tests; a line of a
 # test that runs without a proof is half as long
-CRATE, BELOW, CHECK, EDIT, LINK, TEST = 150, 20, 400, 60, 800, 500
+CRATE, BELOW, CHECK, EDIT, LINK, TEST = 300, 45, 800, 100, 800, 500
 # so many edits of one crate are tried anew
 DRAWN = 6
 # the target that makes the page of an event, where that can be done
