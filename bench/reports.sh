@@ -21,7 +21,9 @@ done
 PATH=$work/bin:$PATH
 # by the interpreter itself: `python3` may be a script that looks for one
 python=$(python3 -c 'import sys; print(sys.executable)')
-net=("$python" "$repository/tools/bin/aprs-net")
+# as it is installed: the sources are compiled there
+make --no-print-directory -s -C "$repository" install PREFIX="$work/place" > install.log
+net=("$python" "$work/place/bin/aprs-net")
 
 python() { "$@" "$python" -c pass; }
 help() { "$@" "${net[@]}" --help; }
